@@ -1,0 +1,5 @@
+pub mod Endings
+pub mod Ends
+pub mod NameBytes
+pub mod Names
+pub mod Outside

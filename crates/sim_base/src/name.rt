@@ -75,6 +75,14 @@ impl Name {
         }
     }
 
+    /// The name of a kind or a probe: 1 to 20 of the characters of a name.
+    pub fn word(text: &str) -> Name
+        requires { is_word text.now ≡ true }
+        ensures { result ≡ text.now }
+    {
+        of_bytes(text.as_bytes())
+    }
+
     /// The name of an actor that is born during a run: `<kind>-<id>`. A kind is 1 to 20 of the
     /// characters of a name.
     pub fn born(kind: &str, id: ActorId) -> Name

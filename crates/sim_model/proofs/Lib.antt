@@ -1,0 +1,4 @@
+pub mod Calm
+pub mod Forward
+pub mod Lists
+pub mod Rising

@@ -1,0 +1,10 @@
+use Rattle.std.proofs.Common.{◌-◌}
+use Rattle.sim_model.specs.Run.{most_moments}
+use Rattle.sim_model.proofs.Forward.{Reached, rank}
+use Rattle.sim_model.proofs.run.plain_run.Given as goal
+
+abbrev pub invariant-loop-next : goal.invariant-loop-next
+invariant-loop-next g l = Reached g.A.Actor.meaning l.setup l.underway
+
+abbrev pub decreases-loop-next : goal.decreases-loop-next
+decreases-loop-next g l = most_moments l.setup - rank l.setup l.underway.at

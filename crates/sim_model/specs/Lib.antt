@@ -1,0 +1,6 @@
+pub mod Agendas
+pub mod Cast
+pub mod Moment
+pub mod Run
+pub mod SetupParts
+pub mod Setups

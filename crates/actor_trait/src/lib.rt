@@ -1,0 +1,19 @@
+//! Actors: what an actor type has to say of itself, what happens to an actor and what comes of it.
+//! A run rests on one premise alone, that each method of an actor is its meaning.
+#![tactic(auto)]
+
+mod actor;
+mod clock;
+mod context;
+mod event;
+mod faults;
+mod letter;
+mod outcome;
+
+pub use actor::Actor;
+pub use clock::Clock;
+pub use context::Context;
+pub use event::Event;
+pub use faults::{FaultCode, fault_of};
+pub use letter::{Letter, Parcel, Payload};
+pub use outcome::{Outcome, Sample};

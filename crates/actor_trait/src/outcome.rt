@@ -1,0 +1,28 @@
+use crate::{FaultCode, Parcel};
+use sim_base::Items;
+
+/// A value of one of the actor's probes, which are numbered from 0.
+#[derive(Clone, Copy, Debug, PartialEq, Eq)]
+pub struct Sample {
+    pub probe: u32,
+    pub value: i64,
+}
+
+/// What comes of an event.
+#[derive(Drop)]
+pub struct Outcome<A> {
+    /// The actor's next state.
+    pub state: A,
+    /// The letters that it sends, in order.
+    pub sends: Items<Parcel>,
+    /// The later ticks at which it wants to act.
+    pub ticks: Items<u64>,
+    /// The actors that it wants to be born.
+    pub births: Items<A>,
+    /// What it samples, in order.
+    pub samples: Items<Sample>,
+    /// Whether it leaves the run when this moment closes.
+    pub retire: bool,
+    /// A fault of the model's own, which ends the run.
+    pub fault: Option<FaultCode>,
+}

@@ -3,6 +3,7 @@
 //! whichever thread sent first.
 #![tactic(auto)]
 
+mod index;
 mod order;
 
 pub use order::order_inbox;

@@ -1,0 +1,9 @@
+//! The order of inboxes: the letters of a moment, sorted out by recipient, each inbox in the order
+//! that the seed gives it. That order depends on what was sent and on nothing else, so it is the same
+//! whichever thread sent first.
+#![tactic(auto)]
+
+mod index;
+mod order;
+
+pub use order::order_inbox;

@@ -9,6 +9,8 @@ mod event;
 mod faults;
 mod letter;
 mod outcome;
+#[cfg(test)]
+mod tests;
 
 pub use actor::Actor;
 pub use clock::Clock;

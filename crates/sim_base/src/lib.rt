@@ -15,6 +15,8 @@ mod sink;
 mod source;
 mod standard;
 mod status;
+#[cfg(test)]
+mod tests;
 
 pub use bytes_in::{BytesIn, SteadyIn};
 pub use bytes_out::{BytesOut, NullOut};

@@ -1,5 +1,5 @@
 -- Each moment of a run is later than the one before, so a run ends.
-use Rattle.std.proofs.Common.{◌≡◌, ℕ, zero, suc, ◌+◌, ◌*◌, ◌-◌, ◌<◌, ◌≤◌, Bool, true, false, not, ◌&&◌, cond, nat_eq, nat_lt, List, [], ◌∷◌, ◌++◌, Option, Some, None, length, zero-add, suc-add, arith, refl, ◌∙◌, ap}
+use Rattle.std.proofs.Common.{◌≡◌, ℕ, zero, suc, ◌+◌, ◌*◌, ◌-◌, ◌<◌, ◌≤◌, Bool, true, false, not, ◌&&◌, cond, nat_eq, nat_lt, List, [], ◌∷◌, ◌++◌, Option, Some, None, length, zero-add, suc-add, arith, refl, ◌∙◌, ap, subst}
 use Rattle.std.specs.List.{fold, flat_map}
 use Rattle.std.proofs.lemmas.Bool.Decides.{nat_tests}
 use Rattle.std.proofs.lemmas.Grind.{common_steps}
@@ -11,7 +11,7 @@ use Rattle.sim_base.specs.declared.moment.Row.{Row}
 use Rattle.actor_trait.specs.Meaning.{Meaning}
 use Rattle.sim_model.specs.Agendas.{Rises, without}
 use Rattle.sim_model.specs.Moment.{close, enter, fault_of_moment, is_spontaneous, next_for, next_tick, put_state, reports, rows_of, scheduled, what_comes_next}
-use Rattle.sim_model.specs.Run.{IsRun, follow, goes_on, judge, most_moments, results_of, run_after, start, step}
+use Rattle.sim_model.specs.Run.{Ends, IsRun, follow, goes_on, judge, most_moments, results_of, run_after, run_of, start, step}
 use Rattle.sim_model.specs.SetupParts.{SetupParts}
 use Rattle.sim_model.specs.Setups.{IsSetup}
 use Rattle.sim_model.specs.declared.agenda.Due.{Due}
@@ -20,6 +20,7 @@ use Rattle.sim_model.specs.declared.next.Next.TheVariants.{Enters, Ends}
 use Rattle.sim_model.specs.declared.report.Fault.{Fault}
 use Rattle.sim_model.specs.declared.report.Report.{Report}
 use Rattle.sim_model.specs.declared.run.Ended.{Ended}
+use Rattle.sim_model.specs.declared.run.Progress.{Progress}
 use Rattle.sim_model.specs.declared.run.Progress.TheVariants.{Going, Over}
 use Rattle.sim_model.specs.declared.run.Underway.{Underway}
 use Rattle.sim_model.specs.declared.world.World.{World}
@@ -215,3 +216,31 @@ reached_end m s u e r h =
     let all : (most_moments s - suc r.moments) + suc r.moments ≡ most_moments s = omega arith in
     let over = stays m s e (suc r.moments) (most_moments s - suc r.moments) (goes_on-at m s u r.moments r.there ∙ h) in
     (e, rw all at over, refl)
+
+-- ---- every run is over after its last moment
+
+abbrev pub FineAt : {A : Type 0} → SetupParts A → Progress A → ℕ → Type 0
+FineAt s (Going u) k = Sound s u × (k ≤ rank s u.at)
+FineAt s (Over e) k = Unit {0}
+
+step_fine : {A : Type 0} (m : Meaning A) (s : SetupParts A) (u : Underway A) (k : ℕ) → Sound s u → k ≤ rank s u.at → (p : Progress A) → step m s u ≡ p → FineAt s p (suc k)
+step_fine m s u k sound within (Going next) e = (step_sound m s u next sound e, omega (arith, step_rank m s u next sound e, within))
+step_fine m s u k sound within (Over x) e = tt
+
+goes_fine : {A : Type 0} (m : Meaning A) (s : SetupParts A) (k : ℕ) (p : Progress A) → FineAt s p k → FineAt s (goes_on m s p) (suc k)
+unfolding goes_on
+goes_fine m s k (Going u) h = step_fine m s u k h.0 h.1 (step m s u) refl
+goes_fine m s k (Over e) h = tt
+
+fine_after : {A : Type 0} (m : Meaning A) (s : SetupParts A) → IsSetup s → (k : ℕ) → FineAt s (run_after m s k) k
+unfolding run_after
+fine_after m s setup zero = let r = start_reached m s setup in (r.sound, omega arith)
+fine_after m s setup (suc k) = goes_fine m s k (run_after m s k) (fine_after m s setup k)
+
+pub run_ends : {A : Type 0} (m : Meaning A) (s : SetupParts A) → IsSetup s → Ends m s
+run_ends {A} m s setup = at_end (run_of m s) refl where
+  at_end : (p : Progress A) → run_of m s ≡ p → Ends m s
+  at_end (Over e) is = (e, is)
+  at_end (Going u) is =
+      let fine : FineAt s (Going u) (most_moments s) = subst (λ q. FineAt s q (most_moments s)) is (fine_after m s setup (most_moments s)) in
+      absurd (omega (arith, rank_below_most s u fine.0, fine.1))

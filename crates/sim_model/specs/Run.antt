@@ -73,3 +73,7 @@ results_of e = record { rows = e.rows; cast = e.world.cast; ending = e.ending; l
 -- the run of the setup ends, and gives these results
 abbrev pub IsRun : {A : Type 0} → Meaning A → SetupParts A → Results → Type 0
 IsRun {A} m s r = (e : Ended A) × (run_of m s ≡ Over e) × (r ≡ results_of e)
+
+-- the run of the setup is over at some moment
+abbrev pub Ends : {A : Type 0} → Meaning A → SetupParts A → Type 0
+Ends {A} m s = (e : Ended A) × (run_of m s ≡ Over e)

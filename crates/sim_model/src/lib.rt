@@ -9,12 +9,14 @@ mod next;
 mod report;
 mod run;
 mod setup;
+#[cfg(test)]
+mod tests;
 mod world;
 
 pub use agenda::{Agenda, Due};
 pub use cast::Member;
 pub use next::Next;
 pub use report::{Fault, Report};
-pub use run::{Ended, Progress, Results, Underway, plain_run};
+pub use run::{Ended, Progress, Results, Underway, each_run_ends, plain_run};
 pub use setup::{Setup, Start};
 pub use world::World;

@@ -1,0 +1,9 @@
+pub mod Answer
+pub mod Clauses
+pub mod Form
+pub mod Lines
+pub mod Names
+pub mod Statuses
+pub mod Text
+pub mod Verdicts
+pub mod Words

@@ -50,16 +50,6 @@ fn push_parents(
     Ok(())
 }
 
-// Appends the level of each of its nodes.
-fn push_level(levels: &mut Vec<u32>, level: u32, width: u32) -> Result<(), AllocError>
-    ensures { OnOk result (levels.new.items ≡ levels.old.items ++ replicate width level) }
-{
-    for _ in 0..width {
-        levels.push(level)?;
-    }
-    Ok(())
-}
-
 // Appends where the children of each of so many parents begin: every `fanout` nodes from `first` on.
 fn push_begins(
     begins: &mut Vec<u32>,
@@ -105,11 +95,12 @@ impl Tree {
         let mut first = 0;
         let mut width = leaves;
         while width > 1 {
+            let next = first + width;
             let above = width.div_ceil(fanout);
-            push_parents(&mut parents, first + width, width, fanout)?;
-            push_level(&mut levels, level, width)?;
+            push_parents(&mut parents, next, width, fanout)?;
+            levels.resize(next as usize, level)?;
             push_begins(&mut begins, first, above, fanout)?;
-            first += width;
+            first = next;
             width = above;
             level += 1;
         }

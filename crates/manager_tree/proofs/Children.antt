@@ -1,0 +1,34 @@
+-- The children of a node stand side by side.
+use Rattle.std.proofs.Common.{◌≡◌, ℕ, ◌+◌, ◌-◌, ◌<◌, ◌≤◌, List, map, length, take, drop, get_or, arith, ap, refl}
+use Rattle.std.specs.List.{range_with_len}
+use Rattle.std.proofs.lemmas.List.{drop-map, get_or_default, length-map, take-map}
+use Rattle.std.proofs.lemmas.List.FromFn.{length-range_with_len}
+use Rattle.sim_base.specs.declared.ids.NodeId.{NodeId}
+use Rattle.manager_tree.specs.Index.{IsIndex, numbers_of}
+use Rattle.manager_tree.specs.Shape.{Shape, children_of, node_count, root_of}
+
+-- what was read is where the children of a node begin and where the next one's do
+pub record IsRead (begins : List ℕ) (node begin end : ℕ) : Type 0 where
+  pub begin_is : begin ≡ get_or begins node begin
+  pub end_is : end ≡ get_or begins (node + 1) end
+
+at_zero : (t : Shape) (nodes : List NodeId) (begins : List ℕ) (node begin end : ℕ) → IsIndex t nodes begins → node < node_count t
+    → IsRead begins node begin end → (begin ≡ get_or begins node 0) × (end ≡ get_or begins (node + 1) 0)
+at_zero t nodes begins node begin end index below read =
+    let long : node + 1 < length begins = omega (arith, index.entries) in
+    let first : get_or begins node begin ≡ get_or begins node 0 = get_or_default begins node begin 0 (omega arith) in
+    let last : get_or begins (node + 1) end ≡ get_or begins (node + 1) 0 = get_or_default begins (node + 1) end 0 long in
+    (rw first at read.begin_is, rw last at read.end_is)
+
+pub children_in : (t : Shape) (nodes : List NodeId) (begins : List ℕ) (node begin end : ℕ) → IsIndex t nodes begins → node < node_count t
+    → IsRead begins node begin end → (begin ≤ end) × (end ≤ length nodes)
+children_in t nodes begins node begin end index below read =
+    let at = at_zero t nodes begins node begin end index below read in
+    let all : length nodes ≡ root_of t = simp (length-map, length-range_with_len) at (ap length index.all) in
+    (omega (arith, at, index.ordered node below), omega (arith, at, all, index.within node below))
+
+pub children_are : (t : Shape) (nodes : List NodeId) (begins : List ℕ) (node begin end : ℕ) → IsIndex t nodes begins → node < node_count t
+    → IsRead begins node begin end → numbers_of (take (end - begin) (drop begin nodes)) ≡ children_of t node
+children_are t nodes begins node begin end index below read =
+    let at = at_zero t nodes begins node begin end index below read in
+    rw (← take-map (λ (n : NodeId). n.0) (end - begin) (drop begin nodes), ← drop-map (λ (n : NodeId). n.0) begin nodes, index.all, at.0, at.1) (index.children node below)

@@ -1,0 +1,5 @@
+pub mod Built
+pub mod Children
+pub mod Limits
+pub mod Pushed
+pub mod Shapes

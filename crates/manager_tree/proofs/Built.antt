@@ -40,7 +40,7 @@ is_small leaves fanout level first width parents levels begins limits b =
       nodes = rw (b.first_is, b.width_is)
           (leb-true _ _ (at_number given (λ t k. leb (first_of t.0 t.1 k + width_of t.0 t.1 k) 31) levels_in refl leaves fanout limits level below));
       above = rw (b.first_is, b.width_is)
-          (leb-true _ _ (at_number given (λ t k. leb (first_of t.0 t.1 k + width_of t.0 t.1 (suc k) * t.1) 40) levels_in refl leaves fanout limits level below))
+          (leb-true _ _ (at_number given (λ t k. leb (first_of t.0 t.1 k + width_of t.0 t.1 (suc k) * t.1) 40) levels_in refl leaves fanout limits level below));
     }
 
 root_alone : (leaves fanout : ℕ) → InLimits leaves fanout → width_of leaves fanout (height_of leaves fanout) ≡ 1
@@ -54,19 +54,19 @@ wide_below leaves fanout level limits below =
 below_root : (leaves fanout level : ℕ) → InLimits leaves fanout → level ≤ height_of leaves fanout → 1 < width_of leaves fanout level
     → level < height_of leaves fanout
 below_root leaves fanout level limits within wide = elim (cases_lt level (height_of leaves fanout)) [
-    inl below ↦ below
+  | inl below ↦ below
   | inr above ↦ (
       let same : height_of leaves fanout ≡ level = omega arith in
       let alone : width_of leaves fanout level ≡ 1 = rw same at (root_alone leaves fanout limits) in
       absurd (omega arith))
-  ]
+]
 
 at_root : (leaves fanout level : ℕ) → InLimits leaves fanout → level ≤ height_of leaves fanout → width_of leaves fanout level ≤ 1
     → level ≡ height_of leaves fanout
 at_root leaves fanout level limits within narrow = elim (cases_lt level (height_of leaves fanout)) [
-    inl below ↦ (let wide = wide_below leaves fanout level limits below in absurd (omega (arith, wide)))
+  | inl below ↦ (let wide = wide_below leaves fanout level limits below in absurd (omega (arith, wide)))
   | inr above ↦ omega arith
-  ]
+]
 
 length-levels_below : (leaves fanout level : ℕ) → length (levels_below leaves fanout level) ≡ first_of leaves fanout level
 length-levels_below leaves fanout zero = refl
@@ -81,7 +81,7 @@ filled : (leaves fanout level width : ℕ) → let levels = levels_below leaves 
 filled leaves fanout level width =
     let full = length-levels_below leaves fanout level in
     let kept : take (first_of leaves fanout level + width) (levels_below leaves fanout level) ≡ levels_below leaves fanout level =
-        take_all _ _ (omega (arith, full)) in
+    take_all _ _ (omega (arith, full)) in
     let more : first_of leaves fanout level + width - length (levels_below leaves fanout level) ≡ width = omega (arith, full) in
     rw (kept, more) refl
 
@@ -104,7 +104,7 @@ built_more leaves fanout level first width above parents levels begins parents' 
       width_is = rw (above_is, b.width_is, add-one) refl;
       parents_are = rw (more_parents, b.parents_are, b.first_is, b.width_is, add-one) refl;
       levels_are = rw (more_levels, b.levels_are, b.first_is, b.width_is, add-one) (filled leaves fanout level (width_of leaves fanout level));
-      begins_are = rw (more_begins, above_is, b.begins_are, b.first_is, b.width_is, add-one) refl
+      begins_are = rw (more_begins, above_is, b.begins_are, b.first_is, b.width_is, add-one) refl;
     }
 
 pub record IsDone (leaves fanout first : ℕ) (parents levels begins : List ℕ) : Type 0 where
@@ -121,9 +121,9 @@ built_all leaves fanout level first width parents levels begins levels' begins' 
     let same : level ≡ height_of leaves fanout = at_root leaves fanout level limits b.within narrow_level in
     let all_parents : parents ≡ parents_below leaves fanout (height_of leaves fanout) = rw (b.parents_are, same) refl in
     let all_levels : levels' ≡ levels_below leaves fanout (suc (height_of leaves fanout)) =
-        rw (last_level, b.levels_are, same, root_alone leaves fanout limits) refl in
+    rw (last_level, b.levels_are, same, root_alone leaves fanout limits) refl in
     record {
       root = rw (b.first_is, b.parents_are, length-parents_below leaves fanout level) refl;
       shape = rw (all_parents, all_levels) refl;
-      begins_are = rw (last_begin, b.begins_are, b.first_is, same) refl
+      begins_are = rw (last_begin, b.begins_are, b.first_is, same) refl;
     }

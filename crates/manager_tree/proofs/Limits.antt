@@ -26,8 +26,8 @@ each test start zero number passed least most = absurd (omega arith)
 each test start (suc count) number passed least most =
     let parts = both (test start) (list_all test (range_with_len (start + 1) count)) passed in
     elim (cases_lt start number) [
-      inl above ↦ each test (start + 1) count number parts.1 (omega arith) (omega arith)
-    | inr at ↦ let same : start ≡ number = omega arith in rw (← same) parts.0
+      | inl above ↦ each test (start + 1) count number parts.1 (omega arith) (omega arith)
+      | inr at ↦ let same : start ≡ number = omega arith in rw (← same) parts.0
     ]
 
 pub at_limits : (test : ℕ → ℕ → Bool) → passes_in_limits test ≡ true → (leaves fanout : ℕ) → InLimits leaves fanout → test leaves fanout ≡ true

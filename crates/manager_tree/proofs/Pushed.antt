@@ -16,5 +16,5 @@ pub numbers_more : (items new : List NodeId) (n : ℕ) → numbers_of items ≡ 
     → numbers_of new ≡ range_with_len 0 (n + 1)
 numbers_more items new n before step =
     let more : range_with_len 0 (n + 1) ≡ range_with_len 0 n ++ n ∷ [] =
-        simp map-id at (map-range_with_len_more (λ k. k) 0 n n (omega arith)) in
+    simp map-id at (map-range_with_len_more (λ k. k) 0 n n (omega arith)) in
     rw (step, map-append, before, more)

@@ -23,7 +23,7 @@ IsTree-tree_over leaves fanout within = record {
   parent_above_leaves = λ node below. leb-true _ _ (at_number tree_over (λ t n. leb t.leaves (parent_of t n)) root_of refl leaves fanout within node below);
   parent_within = λ node below. leb-true _ _ (at_number tree_over (λ t n. leb (parent_of t n) (root_of t)) root_of refl leaves fanout within node below);
   leaves_lowest = λ node below. eqb-true _ _ (at_number tree_over (λ t n. eqb (level_of t n) 0) (λ t. t.leaves) refl leaves fanout within node below);
-  parent_one_higher = λ node below. eqb-true _ _ (at_number tree_over (λ t n. eqb (level_of t (parent_of t n)) (level_of t n + 1)) root_of refl leaves fanout within node below)
+  parent_one_higher = λ node below. eqb-true _ _ (at_number tree_over (λ t n. eqb (level_of t (parent_of t n)) (level_of t n + 1)) root_of refl leaves fanout within node below);
 }
 
 -- a tree and where its nodes' children begin
@@ -49,7 +49,7 @@ IsIndex-tree_over leaves fanout nodes within all_nodes = record {
   all = all_nodes;
   ordered = λ node below. leb-true _ _ (at_number built_over (λ b n. leb (begin_of b n) (begin_of b (n + 1))) nodes_in refl leaves fanout within node below);
   within = λ node below. leb-true _ _ (at_number built_over (λ b n. leb (begin_of b (n + 1)) (root_of b.0)) nodes_in refl leaves fanout within node below);
-  children = λ node below. same_numbers _ _ (at_number built_over (λ b n. pointwise eqb (range_of b n) (children_of b.0 n)) nodes_in refl leaves fanout within node below)
+  children = λ node below. same_numbers _ _ (at_number built_over (λ b n. pointwise eqb (range_of b n) (children_of b.0 n)) nodes_in refl leaves fanout within node below);
 }
 
 -- what was built keeps its children so

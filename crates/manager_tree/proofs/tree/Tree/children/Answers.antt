@@ -13,5 +13,5 @@ pub slice_bounds-result-end : goal.slice_bounds-result-end
 slice_bounds-result-end c =
     let index = subst (λ (t : Shape). IsIndex t c.self.inside.nodes.items c.self.inside.begins.items) c.self.view_is c.self.invariant.1 in
     let in_nodes : (c.index.result.now ≤ c.index-2.result.now) × (c.index-2.result.now ≤ length c.self.inside.nodes.items) =
-        children_in _ _ _ _ _ _ index c.requires (record { begin_is = c.index.ensures; end_is = c.index-2.ensures }) in
+    children_in _ _ _ _ _ _ index c.requires (record { begin_is = c.index.ensures; end_is = c.index-2.ensures }) in
     search rules

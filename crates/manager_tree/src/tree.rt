@@ -1,5 +1,5 @@
 ghost use Rattle.std.specs.Prelude.{◌≡◌, ℕ, ◌+◌, ◌*◌, ◌/◌, ◌^◌, ◌<◌, ◌≤◌, ◌↔◌, ◌++◌, map, replicate, IfOk, OnOk, IfNone, IfSome, IsNone};
-ghost use Rattle.std.specs.List.{range_with_len};
+ghost use Rattle.std.specs.List.{Contains, range_with_len};
 ghost use Rattle.manager_tree.specs.Shape.{IsTree, children_of, level_of, node_count, parent_of, root_of};
 ghost use Rattle.manager_tree.specs.Index.{numbers_of};
 ghost use Rattle.manager_tree.specs.Tree.{tree_over};
@@ -78,8 +78,8 @@ fn nodes_below(alloc: Global, end: u32) -> Result<Vec<NodeId>, AllocError>
 }
 
 impl Tree {
-    /// The tree over 1 to 16 leaves, where a parent takes `fanout` nodes of the level below, 2 to
-    /// 8, and the last of a level what is left.
+    /// The tree over 1 to 16 leaves. A parent takes `fanout` nodes of the level below, 2 to 8, in
+    /// order, and the last parent of a level takes what is left. The error is want of memory.
     pub fn of(alloc: Global, leaves: u32, fanout: u32) -> Result<Tree, Memory>
         requires least_leaves { 1 ≤ leaves }
         requires most_leaves { leaves ≤ 16 }
@@ -155,6 +155,8 @@ impl Tree {
     pub fn children(&self, node: NodeId) -> &[NodeId]
         requires { node.0 < node_count self.now }
         ensures children { map (λ child. child.0) result.now ≡ children_of self.now node.0 }
+        // Each node but the root is a child of its parent, and of no other node.
+        ensures exactly { (child : ℕ) → Contains (children_of self.now node.0) child ↔ ((child < root_of self.now) × (parent_of self.now child ≡ node.0)) }
         ensures tree { IsTree self.now }
     {
         let at = node.0 as usize;

@@ -34,6 +34,7 @@ abbrev pub levels_below : (leaves fanout level : ℕ) → List ℕ
 levels_below leaves fanout zero = []
 levels_below leaves fanout (suc level) = levels_below leaves fanout level ++ replicate (width_of leaves fanout level) level
 
+-- the leaves, the levels above them, and the root
 abbrev pub tree_over : (leaves fanout : ℕ) → Shape
 tree_over leaves fanout = record {
   leaves = leaves;

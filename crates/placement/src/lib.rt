@@ -1,5 +1,6 @@
-//! Which manager an actor belongs to, and the plan of a run: how many workers and managers it has,
-//! and by which policy actors are placed. A result never depends on any of it.
+//! How a run is spread: its plan, which says how many workers and managers there are and by which
+//! policy actors are placed, and the manager of each new actor by that policy.
+//! Placing an actor takes no memory.
 #![tactic(auto)]
 
 mod placing;

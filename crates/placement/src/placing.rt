@@ -19,16 +19,17 @@ fn least_loaded_place(loads: &[u32]) -> usize
     best
 }
 
+// The sum of the bytes of a name.
 fn byte_sum(name: &Name) -> u32
     ensures { result ≡ sum name.now }
 {
     name.as_bytes().iter().map(|byte| u32::from(*byte)).sum()
 }
 
-/// The manager of a new actor, a place of `loads`, which has the number of living actors of each of
-/// 1 to 16 managers. `RoundRobin` gives actor 1 the first manager, and the next the one after.
-/// `ByName` takes the sum of the name's bytes modulo the number of managers. `LeastLoaded` takes
-/// the first manager whose load is least. It takes no memory.
+/// The manager of a new actor: a place of `loads`, which says how many living actors each of 1 to
+/// 16 managers has. `RoundRobin` gives actor 1 the first manager, and each next actor the next one
+/// in turn. `ByName` takes the sum of the name's bytes modulo the number of managers.
+/// `LeastLoaded` takes the first of the managers whose load is least. It takes no memory.
 pub fn place(policy: Policy, id: ActorId, name: &Name, loads: &[u32]) -> ManagerId
     requires actor { 1 ≤ id.0 }
     requires least_managers { 1 ≤ length loads.now }

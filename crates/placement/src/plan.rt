@@ -3,7 +3,7 @@ ghost use Rattle.placement.specs.declared.policy.Policy.{Policy};
 
 use crate::Policy;
 
-/// How a run is spread over threads and managers. No result depends on it.
+/// How a run is spread over threads and managers.
 #[derive(Clone, Copy, Debug, PartialEq, Eq)]
 pub struct Plan {
     /// How many threads work: 1 to 64.
@@ -14,12 +14,9 @@ pub struct Plan {
     pub fanout: u32,
     /// How a new actor finds its manager.
     pub policy: Policy,
-    pub ghost least_workers: { 1 ≤ workers },
-    pub ghost most_workers: { workers ≤ 64 },
-    pub ghost least_managers: { 1 ≤ managers },
-    pub ghost most_managers: { managers ≤ 16 },
-    pub ghost least_fanout: { 2 ≤ fanout },
-    pub ghost most_fanout: { fanout ≤ 8 },
+    pub ghost workers_in_range: { (1 ≤ workers) × (workers ≤ 64) },
+    pub ghost managers_in_range: { (1 ≤ managers) × (managers ≤ 16) },
+    pub ghost fanout_in_range: { (2 ≤ fanout) × (fanout ≤ 8) },
 }
 
 impl Plan {

@@ -1,0 +1,14 @@
+//! How a run is spread: its plan, which says how many workers and managers there are and by which
+//! policy actors are placed, and the manager of each new actor by that policy.
+//! Placing an actor takes no memory.
+#![tactic(auto)]
+
+mod placing;
+mod plan;
+mod policy;
+#[cfg(test)]
+mod tests;
+
+pub use placing::place;
+pub use plan::Plan;
+pub use policy::Policy;

@@ -11,7 +11,7 @@ use Rattle.sim_base.specs.declared.moment.Row.{Row}
 use Rattle.actor_trait.specs.Meaning.{Meaning}
 use Rattle.sim_model.specs.Agendas.{Rises, without}
 use Rattle.sim_model.specs.Moment.{close, enter, fault_of_moment, is_spontaneous, next_for, next_tick, put_state, reports, rows_of, scheduled, what_comes_next}
-use Rattle.sim_model.specs.Run.{Ends, IsRun, follow, goes_on, judge, most_moments, results_of, run_after, run_of, start, step}
+use Rattle.sim_model.specs.Run.{IsRun, RunEnds, follow, goes_on, judge, most_moments, results_of, run_after, run_of, start, step}
 use Rattle.sim_model.specs.SetupParts.{SetupParts}
 use Rattle.sim_model.specs.Setups.{IsSetup}
 use Rattle.sim_model.specs.declared.agenda.Due.{Due}
@@ -237,9 +237,9 @@ unfolding run_after
 fine_after m s setup zero = let r = start_reached m s setup in (r.sound, omega arith)
 fine_after m s setup (suc k) = goes_fine m s k (run_after m s k) (fine_after m s setup k)
 
-pub run_ends : {A : Type 0} (m : Meaning A) (s : SetupParts A) → IsSetup s → Ends m s
+pub run_ends : {A : Type 0} (m : Meaning A) (s : SetupParts A) → IsSetup s → RunEnds m s
 run_ends {A} m s setup = at_end (run_of m s) refl where
-  at_end : (p : Progress A) → run_of m s ≡ p → Ends m s
+  at_end : (p : Progress A) → run_of m s ≡ p → RunEnds m s
   at_end (Over e) is = (e, is)
   at_end (Going u) is =
       let fine : FineAt s (Going u) (most_moments s) = subst (λ q. FineAt s q (most_moments s)) is (fine_after m s setup (most_moments s)) in

@@ -75,5 +75,5 @@ abbrev pub IsRun : {A : Type 0} → Meaning A → SetupParts A → Results → T
 IsRun {A} m s r = (e : Ended A) × (run_of m s ≡ Over e) × (r ≡ results_of e)
 
 -- the run of the setup is over at some moment
-abbrev pub Ends : {A : Type 0} → Meaning A → SetupParts A → Type 0
-Ends {A} m s = (e : Ended A) × (run_of m s ≡ Over e)
+abbrev pub RunEnds : {A : Type 0} → Meaning A → SetupParts A → Type 0
+RunEnds {A} m s = (e : Ended A) × (run_of m s ≡ Over e)

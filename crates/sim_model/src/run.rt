@@ -1,7 +1,7 @@
 ghost use Rattle.std.specs.Prelude.{◌≡◌, ◌+◌, ◌<◌, ◌≤◌, ◌^◌, length, map, IfOk, Some};
 ghost use Rattle.sim_model.specs.Agendas.{Rises};
 ghost use Rattle.sim_model.specs.Moment.{fault_of_moment};
-ghost use Rattle.sim_model.specs.Run.{Ends, IsRun, follow, judge, results_of, start, step};
+ghost use Rattle.sim_model.specs.Run.{IsRun, RunEnds, follow, judge, results_of, start, step};
 
 use crate::cast::opening_cast;
 use crate::moment::{add_rows, close_all, enter_at, first_fault, next_after, report_all};
@@ -167,7 +167,7 @@ pub fn plain_run<A: Actor + Drop>(alloc: Global, setup: &Setup<A>) -> Result<Res
 
 /// The run of every setup ends: a law of the definitions, with nothing to do at run time.
 pub fn each_run_ends<A: Actor>(setup: &Setup<A>)
-    ensures { Ends A.meaning setup.now }
+    ensures { RunEnds A.meaning setup.now }
 {
     let _last = setup.last_tick;
 }

@@ -2,9 +2,9 @@
 use Rattle.std.proofs.Common.{◌≡◌, ◌≢◌, ℕ, suc, zero, ◌+◌, ◌-◌, ◌<◌, ◌≤◌, Bool, true, false, cond, ◌==◌, ◌⊎◌, inl, inr, List, [], ◌∷◌, ◌++◌, refl, sym, ap, arith, rules, ◌∙◌, subst, length, get_or, take, drop, Option, Some, None, slice_get}
 use Rattle.std.proofs.lemmas.Bool.Decides.{nat_tests}
 use Rattle.std.proofs.lemmas.Grind.{common_steps}
-use Rattle.std.proofs.lemmas.List.{append-nil, take_rest, take-append-le, drop-append-le, drop_at, length_push, length-drop, length-take-le, get_or_append_left, get_or_push, get_or-take, get_or_default, take_more}
+use Rattle.std.proofs.lemmas.List.{append-nil, take_rest, take-append-le, drop-append-le, drop_at, length_push, length-drop, length-take-le, get_or_append_left, get_or_push, get_or-take, get_or_default, get_or_past, take_more}
 use Rattle.std.proofs.lemmas.List.Elements.{filter-append}
-use Rattle.std.proofs.lemmas.Option.{slice_get_within, slice_get_past, slice_get_cases}
+use Rattle.std.proofs.lemmas.Option.{get_or_from_slice_get, slice_get_within, slice_get_cases}
 use Rattle.std.specs.List.{filter}
 use Rattle.std.specs.List.Sorted.{IsNonDecreasingBy}
 use Rattle.std.specs.Option.{option_map_or}
@@ -85,10 +85,10 @@ not_to : (r : ActorId) (l : Letter) → r.0 ≢ l.to.0 → is_to r l ≡ false
 not_to r l h = grind (arith, nat_tests)
 
 end_within : (ls : List Letter) (ss : List ℕ) (i e : ℕ) → slice_get ss (i + 1) ≡ Some e → end_of ls ss i ≡ e
-end_within ls ss i e h = rw h
+end_within ls ss i e h = get_or_from_slice_get ss (i + 1) e (length ls) h
 
 end_past : (ls : List Letter) (ss : List ℕ) (i : ℕ) → length ss ≤ i + 1 → end_of ls ss i ≡ length ls
-end_past ls ss i h = rw (slice_get_past ss (i + 1) h)
+end_past ls ss i h = get_or_past ss (i + 1) (length ls) h
 
 last_of : (o : Option ActorId) (to : ActorId) → option_map_or (λ r. r.0 == to.0) o false ≡ true → (r : ActorId) × (o ≡ Some r) × (r.0 ≡ to.0)
 last_of None to e = absurd (cc)

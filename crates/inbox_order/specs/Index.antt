@@ -1,5 +1,5 @@
 -- Where the letters to each recipient stand in a list that has them side by side.
-use Rattle.std.specs.Prelude.{◌≡◌, ◌≢◌, ℕ, ◌+◌, ◌-◌, ◌<◌, ◌≤◌, Bool, false, ◌==◌, if◌then◌else◌, List, [], ◌∷◌, ◌++◌, length, Option, Some, slice_get, slice_index_or, slice_range, unwrap_or}
+use Rattle.std.specs.Prelude.{◌≡◌, ◌≢◌, ℕ, ◌+◌, ◌-◌, ◌<◌, ◌≤◌, Bool, false, ◌==◌, if◌then◌else◌, List, [], ◌∷◌, ◌++◌, length, Option, Some, slice_get, slice_index_or, slice_range}
 use Rattle.std.specs.List.{filter}
 use Rattle.std.specs.Option.{option_map_or}
 use Rattle.sim_base.specs.declared.ids.ActorId.{ActorId}
@@ -15,7 +15,7 @@ pub record IsRun (letters : List Letter) (start end : ℕ) (to : ActorId) : Type
 
 -- the letters of one end where those of the next begin
 abbrev pub end_of : List Letter → List ℕ → ℕ → ℕ
-end_of letters starts i = unwrap_or (slice_get starts (i + 1)) (length letters)
+end_of letters starts i = slice_index_or starts (i + 1) (length letters)
 
 -- the recipients ascend, each has its letters from its start on, and nobody else has any
 pub record IsIndex (letters : List Letter) (recipients : List ActorId) (starts : List ℕ) : Type 0 where

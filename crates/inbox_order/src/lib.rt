@@ -3,7 +3,10 @@
 //! whichever thread sent first.
 #![tactic(auto)]
 
+mod groups;
+mod inboxes;
 mod index;
 mod order;
 
+pub use inboxes::Inboxes;
 pub use order::order_inbox;

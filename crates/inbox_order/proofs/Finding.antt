@@ -75,7 +75,7 @@ found ls rs ss at to h within equal =
     let many : length ss ≡ length rs = h.many in
     let same : get_or rs at to ≡ to = one_id (get_or rs at to) to (equal_numbers (get_or rs at to).0 to.0 (equal to)) in
     subst (λ (r : ActorId). IsRun ls (get_or ss at 0) (end_of ls ss at) r) same
-      (h.runs at (get_or ss at 0) (get_or rs at to) (slice_get-get_or rs at to within) (slice_get-get_or ss at 0 (omega arith)))
+    (h.runs at (get_or ss at 0) (get_or rs at to) (slice_get-get_or rs at to within) (slice_get-get_or ss at 0 (omega arith)))
 
 -- ... as the code reads it
 pub run_at : (ls : List Letter) (rs : List ActorId) (ss : List ℕ) (at start end : ℕ) (to : ActorId) (read : List ActorId) → IsIndex ls rs ss → read ≡ rs

@@ -146,6 +146,7 @@ more_new ls rs ss l h above = record {
     rises i j r q b (inl e) (inr f) = subst (λ (x : ActorId). r.0 < x.0) f.1 (above i r e)
     rises i j r q b (inr e) (inl f) = let w : j < length rs = slice_get_within rs j q f in let v : i ≡ length rs = e.0 in absurd (omega arith)
     rises i j r q b (inr e) (inr f) = let w : j ≡ length rs = f.0 in let v : i ≡ length rs = e.0 in absurd (omega arith)
+
     ends : (i s : ℕ) → slice_get ss i ≡ Some s
         → ((x : ℕ) × (i + 1 < length ss) × (slice_get ss (i + 1) ≡ Some x) × (get_or ss (i + 1) x ≡ x)) ⊎ ((length ss ≤ i + 1) × (slice_get ss (i + 1) ≡ None))
         → end_of (ls ++ l ∷ []) (ss ++ length ls ∷ []) i ≡ end_of ls ss i
@@ -155,6 +156,7 @@ more_new ls rs ss l h above = record {
         let at_end : length ss ≤ i + 1 = w.0 in
         let place : i + 1 ≡ length ss = omega arith in
         end_within (ls ++ l ∷ []) (ss ++ length ls ∷ []) i (length ls) (ap (λ (k : ℕ). slice_get (ss ++ length ls ∷ []) k) place ∙ got_new ss (length ls)) ∙ sym (end_past ls ss i w.0)
+
     run : (i s : ℕ) (r : ActorId) → (slice_get rs i ≡ Some r) ⊎ ((i ≡ length rs) × (l.to ≡ r)) → (slice_get ss i ≡ Some s) ⊎ ((i ≡ length ss) × (length ls ≡ s))
         → IsRun (ls ++ l ∷ []) s (end_of (ls ++ l ∷ []) (ss ++ length ls ∷ []) i) r
     run i s r (inl e) (inl f) =
@@ -194,6 +196,7 @@ index_more ls rs ss l h above = by (is_last rs l.to) refl
         let other : i ≢ length rs - 1 = grind (arith, nat_tests) in
         let lower : r.0 < q.0 = h.rising i (length rs - 1) r q (omega arith) e f in
         omega arith
+
     lower : is_last rs l.to ≡ false → (i : ℕ) (r : ActorId) → slice_get rs i ≡ Some r
         → ((x : ActorId) × (length rs - 1 < length rs) × (slice_get rs (length rs - 1) ≡ Some x) × (get_or rs (length rs - 1) x ≡ x)) ⊎ ((length rs ≤ length rs - 1) × (slice_get rs (length rs - 1) ≡ None))
         → r.0 < l.to.0
@@ -202,6 +205,7 @@ index_more ls rs ss l h above = by (is_last rs l.to) refl
         let unlike : w.0.0 ≢ l.to.0 = not_last (slice_get rs (length rs - 1)) w.0 l.to n w.2 in
         less i r w.0 e w.2 (omega arith) (i == (length rs - 1)) refl
     lower n i r e (inr w) = let within : i < length rs = slice_get_within rs i r e in absurd (omega (arith, w.0))
+
     by : (b : Bool) → is_last rs l.to ≡ b → IsIndex (ls ++ l ∷ []) (push_unless b rs l.to) (push_unless b ss (length ls))
     by true e = let w = last_of (slice_get rs (length rs - 1)) l.to e in more_same ls rs ss l w.0 h w.1 w.2
     by false e = more_new ls rs ss l h (λ i r g. lower e i r g (slice_get_cases rs (length rs - 1)).1)

@@ -22,7 +22,7 @@ pub record IsIndex (letters : List Letter) (recipients : List ActorId) (starts :
   pub many : length starts ≡ length recipients
   pub rising : (i j : ℕ) (r q : ActorId) → i < j → slice_get recipients i ≡ Some r → slice_get recipients j ≡ Some q → r.0 < q.0
   pub runs : (i start : ℕ) (r : ActorId) → slice_get recipients i ≡ Some r → slice_get starts i ≡ Some start
-    → IsRun letters start (end_of letters starts i) r
+      → IsRun letters start (end_of letters starts i) r
   pub others : (a : ActorId) → ((i : ℕ) (r : ActorId) → slice_get recipients i ≡ Some r → r.0 ≢ a.0) → filter (is_to a) letters ≡ []
 
 -- whether an actor is the last recipient so far

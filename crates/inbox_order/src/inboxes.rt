@@ -35,12 +35,7 @@ impl Model for Inboxes {
 impl Inboxes {
     /// The inboxes that letters make which were sent at a moment, under a seed. A key is computed for
     /// no letter that stands alone in its inbox. Err is want of memory.
-    pub fn of(
-        alloc: Global,
-        letters: &[Letter],
-        seed: u64,
-        sent: Moment,
-    ) -> Result<Inboxes, Memory>
+    pub fn of(alloc: Global, letters: &[Letter], seed: u64, sent: Moment) -> Result<Inboxes, Memory>
         ensures { IfOk result (λ inboxes. (to : ActorId) → inbox_of inboxes to ≡ inbox_order letters.now to seed sent) }
     {
         let mut all = letters.to_vec(alloc)?;

@@ -7,6 +7,8 @@ mod groups;
 mod inboxes;
 mod index;
 mod order;
+#[cfg(test)]
+mod tests;
 
 pub use inboxes::Inboxes;
 pub use order::order_inbox;

@@ -11,6 +11,6 @@ pub returns : goal.returns
 returns c =
     let copied = c.in_ok-all.ensures.items_if_clones_equal (λ x y e. e) in
     let ordered : (to : ActorId) → inbox_of c.order_groups.new.letters to ≡ inbox_order c.args.letters.now to c.args.seed c.args.sent = λ to.
-      c.in_ok-order_groups.ensures.inboxes to ∙ ap (in_order c.args.seed c.args.sent) (rw c.deref_mut.ensures.value (c.in_ok-sort_by_recipient.ensures.same to ∙ rw copied)) in
+    c.in_ok-order_groups.ensures.inboxes to ∙ ap (in_order c.args.seed c.args.sent) (rw c.deref_mut.ensures.value (c.in_ok-sort_by_recipient.ensures.same to ∙ rw copied)) in
     ok_then c.indexed.result (λ x. x ≡ _) (λ x. (to : ActorId) → inbox_of x to ≡ inbox_order c.args.letters.now to c.args.seed c.args.sent)
-      (λ x e to. ap (λ (y : List Letter). inbox_of y to) (e ∙ with_items_is c.sort_by_recipient.new.letters c.order_groups.new.letters (c.order_groups.auto.letters ∙ c.deref_mut.ensures.len)) ∙ ordered to) c.indexed.ensures
+    (λ x e to. ap (λ (y : List Letter). inbox_of y to) (e ∙ with_items_is c.sort_by_recipient.new.letters c.order_groups.new.letters (c.order_groups.auto.letters ∙ c.deref_mut.ensures.len)) ∙ ordered to) c.indexed.ensures

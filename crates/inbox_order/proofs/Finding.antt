@@ -27,7 +27,7 @@ is_lt-nat_cmp x y = by (nat_lt x y) (x == y)
     by false true = refl
     by false false = refl
 
-equal_numbers : (x y : ℕ) → nat_cmp x y ≡ Equal → x ≡ y
+pub equal_numbers : (x y : ℕ) → nat_cmp x y ≡ Equal → x ≡ y
 equal_numbers x y e = by (nat_lt x y) (x == y) refl e
   where
     by : (b c : Bool) → (x == y) ≡ c → cond b Less (cond c Equal Greater) ≡ Equal → x ≡ y

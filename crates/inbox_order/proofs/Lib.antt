@@ -1,3 +1,4 @@
+pub mod Arrival
 pub mod Finding
 pub mod Grouping
 pub mod Indexing

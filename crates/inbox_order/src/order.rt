@@ -1,5 +1,9 @@
-ghost use Rattle.std.specs.Prelude.{◌≡◌, ◌≤◌, length, IfOk, IsOk, OnOk, OnErr};
-ghost use Rattle.actor_trait.specs.InboxOrder.{in_order};
+ghost use Rattle.std.specs.Prelude.{◌≡◌, ◌≤◌, List, length, IfOk, IsOk, OnOk, OnErr};
+ghost use Rattle.std.specs.List.{filter};
+ghost use Rattle.std.specs.List.Sorted.{IsPermutation};
+ghost use Rattle.sim_base.specs.declared.ids.ActorId.{ActorId};
+ghost use Rattle.actor_trait.specs.InboxOrder.{AreDistinct, in_order, inbox_order, is_to};
+ghost use Rattle.actor_trait.specs.declared.letter.Letter.{Letter};
 
 use actor_trait::Letter;
 use hash_seed::letter_key;
@@ -7,7 +11,8 @@ use sim_base::{Items, Memory, Moment};
 use std::alloc::Global;
 
 /// The letters of one inbox that were sent at a moment, in inbox order: by their keys under the seed,
-/// then by sender, then by serial. Err is want of memory, and never comes for fewer than two letters.
+/// then by sender, then by serial. Where no two letters are alike, that order doesn't depend on the one
+/// in which they came. Err is want of memory, and never comes for fewer than two letters.
 pub fn order_inbox(
     alloc: Global,
     letters: Items<Letter>,
@@ -15,6 +20,7 @@ pub fn order_inbox(
     sent: Moment,
 ) -> Result<Items<Letter>, Memory>
     ensures order { IfOk result (λ ordered. ordered ≡ in_order seed sent letters) }
+    ensures arrival { AreDistinct letters → (others : List Letter) → IsPermutation letters others → (to : ActorId) → IfOk result (λ ordered. filter (is_to to) ordered ≡ inbox_order others to seed sent) }
     ensures short { length letters ≤ 1 → IsOk result }
 {
     let mut letters = letters.into_vec();

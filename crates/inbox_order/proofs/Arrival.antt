@@ -58,6 +58,7 @@ same_one {X} p xs ys apart perm = by (filter p xs) (filter p ys) refl refl (AllP
   where
     long : length (filter p ys) ≡ length (filter p xs)
     long = length-filter p ys ∙ sum_by-IsPermutation (λ x. cond (p x) 1 0) xs ys perm ∙ sym (length-filter p xs)
+
     by : (us vs : List X) → filter p xs ≡ us → filter p ys ≡ vs → AllPairs (λ x y. p x ≡ true → p y ≡ true → ⊥) us → All (λ x. p x ≡ true) us → filter p xs ≡ filter p ys
     by [] [] e f h k = e ∙ sym f
     by [] (v ∷ vs) e f h k = let a : length (filter p xs) ≡ 0 = ap length e in let b : length (filter p ys) ≡ suc (length vs) = ap length f in absurd (omega (arith, long))
@@ -127,13 +128,15 @@ pub same_inbox : (seed : ℕ) (sent : Moment) (a : ActorId) (xs ys : List Letter
 unfolding in_order
 same_inbox seed sent a xs ys distinct perm =
     same_placed lt o (place_all lt [] (filter (is_to a) xs)) (place_all lt [] (filter (is_to a) ys)) (placed_all lt o [] (filter (is_to a) xs) tt) (placed_all lt o [] (filter (is_to a) ys) tt)
-      (λ x. stable_place_all lt o (filter (is_to a) xs) x ∙ filter-filter (ties lt x) (is_to a) xs ∙ same_one (λ l. is_to a l && ties lt x l) xs ys (alone x) perm
-        ∙ sym (filter-filter (ties lt x) (is_to a) ys) ∙ sym (stable_place_all lt o (filter (is_to a) ys) x))
+    (λ x. stable_place_all lt o (filter (is_to a) xs) x ∙ filter-filter (ties lt x) (is_to a) xs ∙ same_one (λ l. is_to a l && ties lt x l) xs ys (alone x) perm
+    ∙ sym (filter-filter (ties lt x) (is_to a) ys) ∙ sym (stable_place_all lt o (filter (is_to a) ys) x))
   where
     lt : Letter → Letter → Bool
     lt = comes_before seed sent
+
     o : IsStrictWeakOrder (comes_before seed sent)
     o = comes_before_ranks seed sent
+
     alone : (x : Letter) → AllPairs (λ l k. (is_to a l && ties (comes_before seed sent) x l) ≡ true → (is_to a k && ties (comes_before seed sent) x k) ≡ true → ⊥) xs
     alone x i j d low high p q =
         let l : Letter = get_or xs i d in

@@ -2,9 +2,9 @@ ghost use Rattle.std.specs.Prelude.{◌≡◌, ◌<◌, ◌↔◌, List, length,
 ghost use Rattle.std.specs.List.{flat_map};
 ghost use Rattle.std.specs.List.Sorted.{IsNonDecreasingBy, IsPermutation, IsStrictlyIncreasing};
 ghost use Rattle.sim_base.specs.declared.ids.ActorId.{ActorId};
-ghost use Rattle.actor_trait.specs.InboxOrder.{AreDistinct, inbox_order};
+ghost use Rattle.actor_trait.specs.InboxOrder.{AreDistinct};
 ghost use Rattle.actor_trait.specs.declared.letter.Letter.{Letter};
-ghost use Rattle.inbox_order.specs.Inboxes.{inbox_of};
+ghost use Rattle.inbox_order.specs.Inboxes.{AreInboxesOf, inbox_of};
 
 use crate::groups::{order_groups, sort_by_recipient};
 use crate::index::Index;
@@ -37,11 +37,12 @@ impl Inboxes {
     /// The inboxes that letters make which were sent at a moment, under a seed. A key is computed for
     /// no letter that stands alone in its inbox. Err is want of memory.
     pub fn of(alloc: Global, letters: &[Letter], seed: u64, sent: Moment) -> Result<Inboxes, Memory>
-        ensures inboxes { IfOk result (λ inboxes. (to : ActorId) → inbox_of inboxes to ≡ inbox_order letters.now to seed sent) }
+        ensures inboxes { IfOk result (λ inboxes. AreInboxesOf inboxes letters.now seed sent) }
         ensures by_recipient { IfOk result (λ inboxes. IsNonDecreasingBy (λ l. l.to.0) inboxes) }
 
         // The inboxes are the same in whatever order the letters came.
-        ensures arrival { AreDistinct letters.now → (others : List Letter) → IsPermutation letters.now others → IfOk result (λ inboxes. (to : ActorId) → inbox_of inboxes to ≡ inbox_order others to seed sent) }
+        ensures arrival { AreDistinct letters.now → (others : List Letter) → IsPermutation letters.now others
+            → IfOk result (λ inboxes. AreInboxesOf inboxes others seed sent) }
     {
         let mut all = letters.to_vec(alloc)?;
         sort_by_recipient(&mut all)?;
@@ -68,7 +69,8 @@ impl Inboxes {
     /// The inboxes of all parts. Where a recipient stands in several, its letters follow one another in
     /// the order of the parts. Err is want of memory.
     pub fn join(alloc: Global, parts: Items<Inboxes>) -> Result<Inboxes, Memory>
-        ensures inboxes { IfOk result (λ inboxes. (to : ActorId) → inbox_of inboxes to ≡ flat_map (λ part. inbox_of part to) parts) }
+        ensures inboxes { IfOk result (λ inboxes. (to : ActorId)
+            → inbox_of inboxes to ≡ flat_map (λ part. inbox_of part to) parts) }
         ensures by_recipient { IfOk result (λ inboxes. IsNonDecreasingBy (λ l. l.to.0) inboxes) }
     {
         let mut all = all_letters(alloc, parts)?;

@@ -1,9 +1,8 @@
 ghost use Rattle.std.specs.Prelude.{◌≡◌, ◌≤◌, List, length, IfOk, IsOk, OnOk, OnErr};
-ghost use Rattle.std.specs.List.{filter};
 ghost use Rattle.std.specs.List.Sorted.{IsPermutation};
-ghost use Rattle.sim_base.specs.declared.ids.ActorId.{ActorId};
-ghost use Rattle.actor_trait.specs.InboxOrder.{AreDistinct, in_order, inbox_order, is_to};
+ghost use Rattle.actor_trait.specs.InboxOrder.{AreDistinct, in_order};
 ghost use Rattle.actor_trait.specs.declared.letter.Letter.{Letter};
+ghost use Rattle.inbox_order.specs.Inboxes.{AreInboxesOf};
 
 use actor_trait::Letter;
 use hash_seed::letter_key;
@@ -20,7 +19,8 @@ pub fn order_inbox(
     sent: Moment,
 ) -> Result<Items<Letter>, Memory>
     ensures order { IfOk result (λ ordered. ordered ≡ in_order seed sent letters) }
-    ensures arrival { AreDistinct letters → (others : List Letter) → IsPermutation letters others → (to : ActorId) → IfOk result (λ ordered. filter (is_to to) ordered ≡ inbox_order others to seed sent) }
+    ensures arrival { AreDistinct letters → (others : List Letter) → IsPermutation letters others
+        → IfOk result (λ ordered. AreInboxesOf ordered others seed sent) }
     ensures short { length letters ≤ 1 → IsOk result }
 {
     let mut letters = letters.into_vec();

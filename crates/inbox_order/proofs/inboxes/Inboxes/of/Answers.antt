@@ -19,5 +19,5 @@ returns-clause-inboxes c =
 pub returns-clause-arrival : goal.returns-clause-arrival
 returns-clause-arrival c = λ distinct others perm.
     ok_then c.indexed.result (λ x. (to : ActorId) → inbox_of x to ≡ inbox_order c.args.letters.now to c.args.seed c.args.sent)
-      (λ x. (to : ActorId) → inbox_of x to ≡ inbox_order others to c.args.seed c.args.sent)
-      (λ x h to. h to ∙ same_inbox c.args.seed c.args.sent to c.args.letters.now others distinct perm) (returns-clause-inboxes c)
+    (λ x. (to : ActorId) → inbox_of x to ≡ inbox_order others to c.args.seed c.args.sent)
+    (λ x h to. h to ∙ same_inbox c.args.seed c.args.sent to c.args.letters.now others distinct perm) (returns-clause-inboxes c)

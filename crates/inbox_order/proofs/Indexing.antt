@@ -11,7 +11,11 @@ use Rattle.std.specs.Option.{option_map_or}
 use Rattle.sim_base.specs.declared.ids.ActorId.{ActorId}
 use Rattle.actor_trait.specs.InboxOrder.{is_to}
 use Rattle.actor_trait.specs.declared.letter.Letter.{Letter}
-use Rattle.inbox_order.specs.Index.{IsIndex, IsRun, end_of, is_last, push_unless}
+use Rattle.inbox_order.specs.Index.{IsIndex, IsRun, end_of, is_last}
+
+-- one more, unless it is known
+abbrev push_unless : {X : Type 0} → Bool → List X → X → List X
+push_unless known xs x = cond known xs (xs ++ x ∷ [])
 
 got_front : {X : Type 0} (xs : List X) (y : X) (i : ℕ) (x : X) → slice_get xs i ≡ Some x → slice_get (xs ++ y ∷ []) i ≡ Some x
 got_front [] y i x e = absurd (cc)

@@ -1,5 +1,5 @@
 -- Where the letters to each recipient stand in a list that has them side by side.
-use Rattle.std.specs.Prelude.{◌≡◌, ◌≢◌, ℕ, ◌+◌, ◌-◌, ◌<◌, ◌≤◌, Bool, false, ◌==◌, if◌then◌else◌, List, [], ◌∷◌, ◌++◌, length, Option, Some, slice_get, slice_index_or, slice_range}
+use Rattle.std.specs.Prelude.{◌≡◌, ◌≢◌, ℕ, ◌+◌, ◌-◌, ◌<◌, ◌≤◌, Bool, false, ◌==◌, List, [], length, Some, slice_get, slice_index_or, slice_range}
 use Rattle.std.specs.List.{filter}
 use Rattle.std.specs.Option.{option_map_or}
 use Rattle.sim_base.specs.declared.ids.ActorId.{ActorId}
@@ -28,6 +28,3 @@ pub record IsIndex (letters : List Letter) (recipients : List ActorId) (starts :
 -- whether an actor is the last recipient so far
 abbrev pub is_last : List ActorId → ActorId → Bool
 is_last recipients to = option_map_or (λ r. r.0 == to.0) (slice_get recipients (length recipients - 1)) false
-
-abbrev pub push_unless : {X : Type 0} → Bool → List X → X → List X
-push_unless known xs x = if known then xs else xs ++ x ∷ []

@@ -34,8 +34,8 @@ impl Model for Inboxes {
 }
 
 impl Inboxes {
-    /// The inboxes that letters make which were sent at a moment, under a seed. A key is computed for
-    /// no letter that stands alone in its inbox. Err is want of memory.
+    /// The inboxes that letters make which were sent at a moment, under a seed. No key is computed for a
+    /// letter that stands alone in its inbox. Err is want of memory.
     pub fn of(alloc: Global, letters: &[Letter], seed: u64, sent: Moment) -> Result<Inboxes, Memory>
         ensures inboxes { IfOk result (λ inboxes. AreInboxesOf inboxes letters.now seed sent) }
         ensures by_recipient { IfOk result (λ inboxes. IsNonDecreasingBy (λ l. l.to.0) inboxes) }
@@ -88,6 +88,7 @@ impl Inboxes {
         Ok(Inboxes { letters, index })
     }
 
+    /// The letters, by recipient. It takes no memory.
     fn into_letters(self) -> Vec<Letter>
         ensures { result.items ≡ self }
     {

@@ -10,8 +10,8 @@ use sim_base::{Items, Memory, Moment};
 use std::alloc::Global;
 
 /// The letters of one inbox that were sent at a moment, in inbox order: by their keys under the seed,
-/// then by sender, then by serial. Where no two letters are alike, that order doesn't depend on the one
-/// in which they came. Err is want of memory, and never comes for fewer than two letters.
+/// then by sender, then by serial. Where no two agree in sender and serial, the order in which they
+/// came doesn't matter. Err is want of memory, and never comes for fewer than two letters.
 pub fn order_inbox(
     alloc: Global,
     letters: Items<Letter>,

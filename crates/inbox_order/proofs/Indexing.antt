@@ -2,16 +2,20 @@
 use Rattle.std.proofs.Common.{◌≡◌, ◌≢◌, ℕ, suc, zero, ◌+◌, ◌-◌, ◌<◌, ◌≤◌, Bool, true, false, cond, ◌==◌, ◌⊎◌, inl, inr, List, [], ◌∷◌, ◌++◌, refl, sym, ap, arith, rules, ◌∙◌, subst, length, get_or, take, drop, Option, Some, None, slice_get}
 use Rattle.std.proofs.lemmas.Bool.Decides.{nat_tests}
 use Rattle.std.proofs.lemmas.Grind.{common_steps}
-use Rattle.std.proofs.lemmas.List.{append-nil, take_rest, take-append-le, drop-append-le, drop_at, length_push, length-drop, length-take-le, get_or_append_left, get_or_push, get_or-take, get_or_default, take_more}
+use Rattle.std.proofs.lemmas.List.{append-nil, take_rest, take-append-le, drop-append-le, drop_at, length_push, length-drop, length-take-le, get_or_append_left, get_or_push, get_or-take, get_or_default, get_or_past, take_more}
 use Rattle.std.proofs.lemmas.List.Elements.{filter-append}
-use Rattle.std.proofs.lemmas.Option.{slice_get_within, slice_get_past, slice_get_cases}
+use Rattle.std.proofs.lemmas.Option.{get_or_from_slice_get, slice_get_within, slice_get_cases}
 use Rattle.std.specs.List.{filter}
 use Rattle.std.specs.List.Sorted.{IsNonDecreasingBy}
 use Rattle.std.specs.Option.{option_map_or}
 use Rattle.sim_base.specs.declared.ids.ActorId.{ActorId}
 use Rattle.actor_trait.specs.InboxOrder.{is_to}
 use Rattle.actor_trait.specs.declared.letter.Letter.{Letter}
-use Rattle.inbox_order.specs.Index.{IsIndex, IsRun, end_of, is_last, push_unless}
+use Rattle.inbox_order.specs.Index.{IsIndex, IsRun, end_of, is_last}
+
+-- one more, unless it is known
+abbrev push_unless : {X : Type 0} → Bool → List X → X → List X
+push_unless known xs x = cond known xs (xs ++ x ∷ [])
 
 got_front : {X : Type 0} (xs : List X) (y : X) (i : ℕ) (x : X) → slice_get xs i ≡ Some x → slice_get (xs ++ y ∷ []) i ≡ Some x
 got_front [] y i x e = absurd (cc)
@@ -85,10 +89,10 @@ not_to : (r : ActorId) (l : Letter) → r.0 ≢ l.to.0 → is_to r l ≡ false
 not_to r l h = grind (arith, nat_tests)
 
 end_within : (ls : List Letter) (ss : List ℕ) (i e : ℕ) → slice_get ss (i + 1) ≡ Some e → end_of ls ss i ≡ e
-end_within ls ss i e h = rw h
+end_within ls ss i e h = get_or_from_slice_get ss (i + 1) e (length ls) h
 
 end_past : (ls : List Letter) (ss : List ℕ) (i : ℕ) → length ss ≤ i + 1 → end_of ls ss i ≡ length ls
-end_past ls ss i h = rw (slice_get_past ss (i + 1) h)
+end_past ls ss i h = get_or_past ss (i + 1) (length ls) h
 
 last_of : (o : Option ActorId) (to : ActorId) → option_map_or (λ r. r.0 == to.0) o false ≡ true → (r : ActorId) × (o ≡ Some r) × (r.0 ≡ to.0)
 last_of None to e = absurd (cc)
@@ -146,6 +150,7 @@ more_new ls rs ss l h above = record {
     rises i j r q b (inl e) (inr f) = subst (λ (x : ActorId). r.0 < x.0) f.1 (above i r e)
     rises i j r q b (inr e) (inl f) = let w : j < length rs = slice_get_within rs j q f in let v : i ≡ length rs = e.0 in absurd (omega arith)
     rises i j r q b (inr e) (inr f) = let w : j ≡ length rs = f.0 in let v : i ≡ length rs = e.0 in absurd (omega arith)
+
     ends : (i s : ℕ) → slice_get ss i ≡ Some s
         → ((x : ℕ) × (i + 1 < length ss) × (slice_get ss (i + 1) ≡ Some x) × (get_or ss (i + 1) x ≡ x)) ⊎ ((length ss ≤ i + 1) × (slice_get ss (i + 1) ≡ None))
         → end_of (ls ++ l ∷ []) (ss ++ length ls ∷ []) i ≡ end_of ls ss i
@@ -155,6 +160,7 @@ more_new ls rs ss l h above = record {
         let at_end : length ss ≤ i + 1 = w.0 in
         let place : i + 1 ≡ length ss = omega arith in
         end_within (ls ++ l ∷ []) (ss ++ length ls ∷ []) i (length ls) (ap (λ (k : ℕ). slice_get (ss ++ length ls ∷ []) k) place ∙ got_new ss (length ls)) ∙ sym (end_past ls ss i w.0)
+
     run : (i s : ℕ) (r : ActorId) → (slice_get rs i ≡ Some r) ⊎ ((i ≡ length rs) × (l.to ≡ r)) → (slice_get ss i ≡ Some s) ⊎ ((i ≡ length ss) × (length ls ≡ s))
         → IsRun (ls ++ l ∷ []) s (end_of (ls ++ l ∷ []) (ss ++ length ls ∷ []) i) r
     run i s r (inl e) (inl f) =
@@ -194,6 +200,7 @@ index_more ls rs ss l h above = by (is_last rs l.to) refl
         let other : i ≢ length rs - 1 = grind (arith, nat_tests) in
         let lower : r.0 < q.0 = h.rising i (length rs - 1) r q (omega arith) e f in
         omega arith
+
     lower : is_last rs l.to ≡ false → (i : ℕ) (r : ActorId) → slice_get rs i ≡ Some r
         → ((x : ActorId) × (length rs - 1 < length rs) × (slice_get rs (length rs - 1) ≡ Some x) × (get_or rs (length rs - 1) x ≡ x)) ⊎ ((length rs ≤ length rs - 1) × (slice_get rs (length rs - 1) ≡ None))
         → r.0 < l.to.0
@@ -202,6 +209,7 @@ index_more ls rs ss l h above = by (is_last rs l.to) refl
         let unlike : w.0.0 ≢ l.to.0 = not_last (slice_get rs (length rs - 1)) w.0 l.to n w.2 in
         less i r w.0 e w.2 (omega arith) (i == (length rs - 1)) refl
     lower n i r e (inr w) = let within : i < length rs = slice_get_within rs i r e in absurd (omega (arith, w.0))
+
     by : (b : Bool) → is_last rs l.to ≡ b → IsIndex (ls ++ l ∷ []) (push_unless b rs l.to) (push_unless b ss (length ls))
     by true e = let w = last_of (slice_get rs (length rs - 1)) l.to e in more_same ls rs ss l w.0 h w.1 w.2
     by false e = more_new ls rs ss l h (λ i r g. lower e i r g (slice_get_cases rs (length rs - 1)).1)

@@ -1,6 +1,8 @@
-ghost use Rattle.std.specs.Prelude.{◌≡◌, IfOk, OnOk};
+ghost use Rattle.std.specs.Prelude.{◌≡◌, ◌+◌, ◌<◌, ◌≤◌, length, slice_index_or, slice_range, IfOk};
+ghost use Rattle.std.specs.List.{filter};
 ghost use Rattle.std.specs.List.Sorted.{IsNonDecreasingBy};
-ghost use Rattle.inbox_order.specs.Index.{IsIndex, is_last, push_unless};
+ghost use Rattle.actor_trait.specs.InboxOrder.{is_to};
+ghost use Rattle.inbox_order.specs.Index.{IsIndex, is_last};
 
 use actor_trait::Letter;
 use sim_base::{ActorId, Memory};
@@ -30,6 +32,27 @@ impl Index {
             }
         }
         Ok(Index { recipients, starts })
+    }
+
+    /// From where up to where the letters to one stand; from 0 to 0 where there are none.
+    pub fn range(&self, letters: &[Letter], to: ActorId) -> (usize, usize)
+        requires { IsIndex letters.now self.now.recipients.items self.now.starts.items }
+        ensures ordered { result.0 ≤ result.1 }
+        ensures within { result.1 ≤ length letters.now }
+        ensures all { slice_range letters.now result.0 result.1 ≡ filter (is_to to) letters.now }
+    {
+        match self.recipients.binary_search(&to) {
+            Ok(at) => (self.starts[at], self.end_of(at, letters.len())),
+            Err(_) => (0, 0),
+        }
+    }
+
+    /// Where the letters to one end, of so many letters.
+    fn end_of(&self, at: usize, letters: usize) -> usize
+        requires { at < length self.now.starts.items }
+        ensures { result ≡ slice_index_or self.now.starts.items (at + 1) letters }
+    {
+        self.starts.get(at + 1).copied().unwrap_or(letters)
     }
 }
 

@@ -3,7 +3,12 @@
 //! whichever thread sent first.
 #![tactic(auto)]
 
+mod groups;
+mod inboxes;
 mod index;
 mod order;
+#[cfg(test)]
+mod tests;
 
+pub use inboxes::Inboxes;
 pub use order::order_inbox;

@@ -1,5 +1,8 @@
-ghost use Rattle.std.specs.Prelude.{◌≡◌, ◌≤◌, length, IfOk, IsOk, OnOk, OnErr};
-ghost use Rattle.actor_trait.specs.InboxOrder.{in_order};
+ghost use Rattle.std.specs.Prelude.{◌≡◌, ◌≤◌, List, length, IfOk, IsOk, OnOk, OnErr};
+ghost use Rattle.std.specs.List.Sorted.{IsPermutation};
+ghost use Rattle.actor_trait.specs.InboxOrder.{AreDistinct, in_order};
+ghost use Rattle.actor_trait.specs.declared.letter.Letter.{Letter};
+ghost use Rattle.inbox_order.specs.Inboxes.{AreInboxesOf};
 
 use actor_trait::Letter;
 use hash_seed::letter_key;
@@ -7,7 +10,8 @@ use sim_base::{Items, Memory, Moment};
 use std::alloc::Global;
 
 /// The letters of one inbox that were sent at a moment, in inbox order: by their keys under the seed,
-/// then by sender, then by serial. Err is want of memory, and never comes for fewer than two letters.
+/// then by sender, then by serial. Where no two agree in sender and serial, the order in which they
+/// came doesn't matter. Err is want of memory, and never comes for fewer than two letters.
 pub fn order_inbox(
     alloc: Global,
     letters: Items<Letter>,
@@ -15,6 +19,8 @@ pub fn order_inbox(
     sent: Moment,
 ) -> Result<Items<Letter>, Memory>
     ensures order { IfOk result (λ ordered. ordered ≡ in_order seed sent letters) }
+    ensures arrival { AreDistinct letters → (others : List Letter) → IsPermutation letters others
+        → IfOk result (λ ordered. AreInboxesOf ordered others seed sent) }
     ensures short { length letters ≤ 1 → IsOk result }
 {
     let mut letters = letters.into_vec();

@@ -13,4 +13,4 @@ returns-clause-ok c =
     let key : Letter → Key × ActorId × ℕ = λ l. (key_of c.args.seed c.args.sent l, l.from, l.serial) in
     let computes = always_returns_same _ (λ a r. r ≡ key a.0.now) _ (λ a r f k. search rules) in
     sorted_in_order c.args.seed c.args.sent c.args.letters.now c.sort_by_cached_key.new.self
-        (c.in_ok-sort_by_cached_key.ensures.sorted key computes) (c.in_ok-sort_by_cached_key.ensures.stable key computes)
+    (c.in_ok-sort_by_cached_key.ensures.sorted key computes) (c.in_ok-sort_by_cached_key.ensures.stable key computes)

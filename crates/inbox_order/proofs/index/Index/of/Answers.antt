@@ -9,9 +9,9 @@ pub loop-at-preserved : goal.loop-at-preserved
 loop-at-preserved c =
     let told = rw c.deref.ensures.value at c.ends_with.ensures in
     elim c.if-not-ends_with.branch [
-      then-not-ends_with+in_ok-push+in_ok-push-2 w ↦
-        let new = index_new _ _ _ _ _ c.requires c.loop-at-test.true c.loop-at.invariant (sym told ∙ search rules) in
-        rw (w.recipients-is, w.starts-is, w.in_ok-push.ensures.items, w.in_ok-push-2.ensures.items) new
-    | else-not-ends_with w ↦
-        rw (w.recipients-is, w.starts-is) (index_known _ _ _ _ _ c.requires c.loop-at-test.true c.loop-at.invariant (sym told ∙ search rules))
+      | then-not-ends_with+in_ok-push+in_ok-push-2 w ↦
+          let new = index_new _ _ _ _ _ c.requires c.loop-at-test.true c.loop-at.invariant (sym told ∙ search rules) in
+          rw (w.recipients-is, w.starts-is, w.in_ok-push.ensures.items, w.in_ok-push-2.ensures.items) new
+      | else-not-ends_with w ↦
+          rw (w.recipients-is, w.starts-is) (index_known _ _ _ _ _ c.requires c.loop-at-test.true c.loop-at.invariant (sym told ∙ search rules))
     ]

@@ -1,0 +1,109 @@
+ghost use Rattle.std.specs.Prelude.{◌≡◌, ◌<◌, ◌↔◌, List, length, map, Contains, IfOk};
+ghost use Rattle.std.specs.List.{flat_map};
+ghost use Rattle.std.specs.List.Sorted.{IsNonDecreasingBy, IsPermutation, IsStrictlyIncreasing};
+ghost use Rattle.sim_base.specs.declared.ids.ActorId.{ActorId};
+ghost use Rattle.actor_trait.specs.InboxOrder.{AreDistinct};
+ghost use Rattle.actor_trait.specs.declared.letter.Letter.{Letter};
+ghost use Rattle.inbox_order.specs.Inboxes.{AreInboxesOf, inbox_of};
+
+use crate::groups::{order_groups, sort_by_recipient};
+use crate::index::Index;
+use actor_trait::Letter;
+use sim_base::{ActorId, Items, Memory, Moment};
+use std::alloc::Global;
+use std::marker::Model;
+
+/// The inboxes of all who have a letter. Contracts see the list of all letters, by recipient, each
+/// inbox in its order.
+#[derive(Drop)]
+pub struct Inboxes {
+    letters: Vec<Letter>,
+    index: Index,
+}
+
+impl Model for Inboxes {
+    ghost use Rattle.std.specs.Prelude.{List};
+    ghost use Rattle.actor_trait.specs.declared.letter.Letter.{Letter};
+    ghost use Rattle.inbox_order.specs.Index.{IsIndex};
+
+    ghost Value = { List Letter };
+
+    ghost view = { λ x. x.letters.items };
+
+    ghost invariant = { λ x. IsIndex x.letters.items x.index.recipients.items x.index.starts.items };
+}
+
+impl Inboxes {
+    /// The inboxes that letters make which were sent at a moment, under a seed. No key is computed for a
+    /// letter that stands alone in its inbox. Err is want of memory.
+    pub fn of(alloc: Global, letters: &[Letter], seed: u64, sent: Moment) -> Result<Inboxes, Memory>
+        ensures inboxes { IfOk result (λ inboxes. AreInboxesOf inboxes letters.now seed sent) }
+        ensures by_recipient { IfOk result (λ inboxes. IsNonDecreasingBy (λ l. l.to.0) inboxes) }
+
+        // The inboxes are the same in whatever order the letters came.
+        ensures arrival { AreDistinct letters.now → (others : List Letter) → IsPermutation letters.now others
+            → IfOk result (λ inboxes. AreInboxesOf inboxes others seed sent) }
+    {
+        let mut all = letters.to_vec(alloc)?;
+        sort_by_recipient(&mut all)?;
+        order_groups(alloc, &mut all, seed, sent)?;
+        Inboxes::indexed(alloc, all)
+    }
+
+    /// Those who have a letter, ascending.
+    pub fn recipients(&self) -> &[ActorId]
+        ensures ascending { IsStrictlyIncreasing (map (λ r. r.0) result.now) }
+        ensures each { (to : ActorId) → Contains result.now to ↔ (0 < length (inbox_of self.now to)) }
+    {
+        &self.index.recipients
+    }
+
+    /// The letters to one, in order; none where it has none.
+    pub fn inbox(&self, to: ActorId) -> &[Letter]
+        ensures { result.now ≡ inbox_of self.now to }
+    {
+        let (start, end) = self.index.range(&self.letters, to);
+        &self.letters[start..end]
+    }
+
+    /// The inboxes of all parts. Where a recipient stands in several, its letters follow one another in
+    /// the order of the parts. Err is want of memory.
+    pub fn join(alloc: Global, parts: Items<Inboxes>) -> Result<Inboxes, Memory>
+        ensures inboxes { IfOk result (λ inboxes. (to : ActorId)
+            → inbox_of inboxes to ≡ flat_map (λ part. inbox_of part to) parts) }
+        ensures by_recipient { IfOk result (λ inboxes. IsNonDecreasingBy (λ l. l.to.0) inboxes) }
+    {
+        let mut all = all_letters(alloc, parts)?;
+        sort_by_recipient(&mut all)?;
+        Inboxes::indexed(alloc, all)
+    }
+
+    /// The inboxes of letters that stand by recipient.
+    fn indexed(alloc: Global, letters: Vec<Letter>) -> Result<Inboxes, Memory>
+        requires { IsNonDecreasingBy (λ l. l.to.0) letters.items }
+        ensures same { IfOk result (λ inboxes. inboxes ≡ letters.items) }
+        ensures by_recipient { IfOk result (λ inboxes. IsNonDecreasingBy (λ l. l.to.0) inboxes) }
+    {
+        let index = Index::of(alloc, &letters)?;
+        Ok(Inboxes { letters, index })
+    }
+
+    /// The letters, by recipient. It takes no memory.
+    fn into_letters(self) -> Vec<Letter>
+        ensures { result.items ≡ self }
+    {
+        let Inboxes { letters, index: _ } = self;
+        letters
+    }
+}
+
+/// The letters of all parts, one part after the other.
+fn all_letters(alloc: Global, parts: Items<Inboxes>) -> Result<Vec<Letter>, Memory>
+    ensures { IfOk result (λ all. all.items ≡ flat_map (λ part. part) parts) }
+{
+    let mut all = Vec::new(alloc);
+    for part in parts.into_vec() {
+        all.append(&mut part.into_letters())?;
+    }
+    Ok(all)
+}

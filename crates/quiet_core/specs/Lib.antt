@@ -1,0 +1,5 @@
+pub mod Rows
+pub mod Account
+pub mod Step
+pub mod Balance
+pub mod Conditions

@@ -1,0 +1,12 @@
+//! The pure core of a round: the counters and accounts by which many hands find out that everything
+//! scheduled is reported and every letter acknowledged, and the proof that the root of the counters
+//! is reached only then.
+#![tactic(auto)]
+
+mod deed;
+mod event;
+mod refused;
+
+pub use deed::Deed;
+pub use event::CoreEvent;
+pub use refused::{Condition, Refused};

@@ -8,7 +8,7 @@ use Rattle.quiet_core.specs.declared.deed.Deed.TheVariants as deed
 use Rattle.quiet_core.specs.Step.{State, word, claim_at, coll_at, issued_at, settled, May, acted}
 use Rattle.quiet_core.specs.Balance.{past, open_at, plain_at, owed_at, acked_at, UnitsAt, LettersAt, Balance}
 use Rattle.quiet_core.proofs.Sums.{sum_turn, each_turn, below_same, below_turn, pair_here, pair_beside, pair_apart}
-use Rattle.quiet_core.proofs.Frame.{split_at, next, weights_same, claims_same, issued_same, units_same, letters_same, collectors_same}
+use Rattle.quiet_core.proofs.Untouched.{split_at, next, weights_same, claims_same, issued_same, units_same, letters_same, collectors_same}
 use Rattle.quiet_core.proofs.Acks.{ack_left}
 use Rattle.quiet_core.proofs.Settle.{settled_field, leaf_climbs}
 

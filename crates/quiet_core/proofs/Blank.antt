@@ -4,7 +4,7 @@ use Rattle.quiet_core.specs.Rows.{below, at_pair}
 use Rattle.quiet_core.specs.Account.{Shape, managers, most_managers, most_nodes, Mark, free, blank, mark, has_met, posts, knows, acks, collects, has_duty}
 use Rattle.quiet_core.specs.Balance.{past, acked_at}
 use Rattle.quiet_core.proofs.Sums.{below_same, below_zero}
-use Rattle.quiet_core.proofs.Frame.{cond_le}
+use Rattle.quiet_core.proofs.Untouched.{cond_le}
 
 same_all : {A : Type 0} (n i : ℕ) (a : A) → get_or (replicate n a) i a ≡ a
 same_all zero i a = refl

@@ -9,7 +9,7 @@ use Rattle.quiet_core.specs.declared.deed.Deed.TheVariants as deed
 use Rattle.quiet_core.specs.Step.{State, word, claim_at, coll_at, issued_at, put_mark, May, acted}
 use Rattle.quiet_core.specs.Balance.{past, open_at, plain_at, owed_at, acked_at, ClaimsAt, UnitsAt, Balance}
 use Rattle.quiet_core.proofs.Sums.{put_here, put_else, le_sum, sum_turn, each_turn}
-use Rattle.quiet_core.proofs.Frame.{by_test, split_at, past_none, past_all, past_le, mark_here, mark_beside, mark_apart, count_put, count_apart, next, weights_same, claims_same, issued_same, units_same, letters_same, collectors_same, climbs_same, freed, nothing}
+use Rattle.quiet_core.proofs.Untouched.{by_test, split_at, past_none, past_all, past_le, mark_here, mark_beside, mark_apart, count_put, count_apart, next, weights_same, claims_same, issued_same, units_same, letters_same, collectors_same, climbs_same, freed, nothing}
 
 module _ (t : Shape) (s : State) (h : ℕ) (a : Account) (m : ℕ) (w : Balance t s) (at : get_elem? s.accounts h ≡ some a) (may : May t (deed.Claim m) a) where
   abbrev p : ℕ

@@ -10,7 +10,7 @@ use Rattle.quiet_core.specs.declared.deed.Deed.TheVariants as deed
 use Rattle.quiet_core.specs.Step.{State, word, claim_at, coll_at, issued_at, settled, May, acted}
 use Rattle.quiet_core.specs.Balance.{past, open_at, plain_at, owed_at, acked_at, duties_at, alive, Balance}
 use Rattle.quiet_core.proofs.Sums.{put_here, put_else, le_sum, le_below, below_same, below_turn}
-use Rattle.quiet_core.proofs.Frame.{split_at, next, weights_same, claims_same, issued_same, units_same, letters_same, collectors_same}
+use Rattle.quiet_core.proofs.Untouched.{split_at, next, weights_same, claims_same, issued_same, units_same, letters_same, collectors_same}
 use Rattle.quiet_core.proofs.Settle.{settled_field, lives, above, at_top}
 
 module _ (t : Shape) (s : State) (h : ℕ) (a : Account) (k : ℕ) (w : Balance t s) (at : get_elem? s.accounts h ≡ some a) (may : May t (deed.Climb k) a) where

@@ -8,7 +8,7 @@ use Rattle.quiet_core.specs.declared.deed.Deed.TheVariants as deed
 use Rattle.quiet_core.specs.Step.{State, word, claim_at, coll_at, issued_at, May, acted}
 use Rattle.quiet_core.specs.Balance.{past, open_at, plain_at, owed_at, acked_at, LettersAt, CollectorAt, Balance}
 use Rattle.quiet_core.proofs.Sums.{put_here, put_else, le_sum, sum_turn, each_turn, pair_here, pair_beside, pair_apart, pair_below}
-use Rattle.quiet_core.proofs.Frame.{by_test, split_at, next, weights_same, claims_same, issued_same, units_same, letters_same, collectors_same, climbs_same}
+use Rattle.quiet_core.proofs.Untouched.{by_test, split_at, next, weights_same, claims_same, issued_same, units_same, letters_same, collectors_same, climbs_same}
 
 module _ (t : Shape) (s : State) (h : ℕ) (a : Account) (n : ℕ) (w : Balance t s) (at : get_elem? s.accounts h ≡ some a) (may : May t (deed.Collect n) a) where
   abbrev p : ℕ

@@ -8,7 +8,7 @@ use Rattle.quiet_core.specs.declared.deed.Deed.TheVariants as deed
 use Rattle.quiet_core.specs.Step.{State, word, claim_at, coll_at, issued_at, put_mark, settled, May, acted}
 use Rattle.quiet_core.specs.Balance.{past, open_at, plain_at, owed_at, acked_at, ClaimsAt, UnitsAt, Balance}
 use Rattle.quiet_core.proofs.Sums.{sum_turn}
-use Rattle.quiet_core.proofs.Frame.{split_at, mark_here, mark_beside, mark_apart, count_put, count_apart, next, weights_same, claims_same, issued_same, units_same, letters_same, collectors_same}
+use Rattle.quiet_core.proofs.Untouched.{split_at, mark_here, mark_beside, mark_apart, count_put, count_apart, next, weights_same, claims_same, issued_same, units_same, letters_same, collectors_same}
 use Rattle.quiet_core.proofs.Acks.{entered_one, open_in, one_left}
 use Rattle.quiet_core.proofs.Settle.{settled_field, leaf_climbs}
 

@@ -1,5 +1,6 @@
+pub mod Blends
 pub mod Sums
-pub mod Frame
+pub mod Untouched
 pub mod Blank
 pub mod Settle
 pub mod Acks

@@ -7,7 +7,7 @@ use Rattle.quiet_core.specs.declared.deed.Deed.TheVariants as deed
 use Rattle.quiet_core.specs.Step.{State, word, claim_at, coll_at, issued_at, put_mark, May, acted}
 use Rattle.quiet_core.specs.Balance.{open_at, plain_at, owed_at, acked_at, ClaimsAt, UnitsAt, Balance}
 use Rattle.quiet_core.proofs.Sums.{le_sum, le_below, sum_turn}
-use Rattle.quiet_core.proofs.Frame.{split_at, mark_here, mark_beside, mark_apart, count_put, count_apart, next, weights_same, claims_same, issued_same, units_same, letters_same, collectors_same, climbs_alive}
+use Rattle.quiet_core.proofs.Untouched.{split_at, mark_here, mark_beside, mark_apart, count_put, count_apart, next, weights_same, claims_same, issued_same, units_same, letters_same, collectors_same, climbs_alive}
 use Rattle.quiet_core.proofs.Acks.{open_in, one_left}
 
 module _ (t : Shape) (s : State) (h : ℕ) (a : Account) (m i n : ℕ) (w : Balance t s) (at : get_elem? s.accounts h ≡ some a) (may : May t (deed.Raise m i n) a) where

@@ -9,7 +9,7 @@ use Rattle.quiet_core.specs.Account.{no_pairs, Shape, scheduled, Account, blank,
 use Rattle.quiet_core.specs.Step.{new_part, State, word, claim_at, issued_at, kept_part, split, grown}
 use Rattle.quiet_core.specs.Balance.{Each, past, open_at, plain_at, owed_at, acked_at, Balance}
 use Rattle.quiet_core.proofs.Sums.{sum_turns, each_turn}
-use Rattle.quiet_core.proofs.Frame.{cond_le, past_none}
+use Rattle.quiet_core.proofs.Untouched.{cond_le, past_none}
 -- the accounts ys have the sums of xs, and are as good
 use Rattle.quiet_core.proofs.Parting.{alike_keeps}
 

@@ -3,3 +3,5 @@ pub mod Account
 pub mod Step
 pub mod Balance
 pub mod Conditions
+pub mod Wide
+pub mod Noted

@@ -5,8 +5,13 @@
 
 mod deed;
 mod event;
+mod frame;
+mod ledger;
+mod pairs;
+mod rows;
 mod refused;
 
 pub use deed::Deed;
 pub use event::CoreEvent;
+pub use frame::Frame;
 pub use refused::{Condition, Refused};

@@ -1,3 +1,5 @@
+pub mod Books
+pub mod Parts
 pub mod Blends
 pub mod Sums
 pub mod Untouched

@@ -65,6 +65,17 @@ blank t = record {
   at_root = false;
 }
 
+-- a round in which nobody is scheduled, and an account of it
+abbrev pub no_actors : Shape
+no_actors = record { sched = []; parents = []; hands = 0 }
+
+abbrev pub nobody : Account
+nobody = blank no_actors
+
+-- the account of a hand
+abbrev pub account : List Account → ℕ → Account
+account xs h = get_or xs h nobody
+
 abbrev pub mark : Account → ℕ → ℕ → Mark
 mark a m i = get_or (get_or a.marks m []) i free
 

@@ -5,3 +5,4 @@ pub mod Balance
 pub mod Conditions
 pub mod Wide
 pub mod Noted
+pub mod Entries

@@ -1,13 +1,9 @@
 -- What is written of a deed beside the actors.
-use Rattle.std.specs.Prelude.{ℕ, ◌+◌, ◌^◌, ◌<◌, ◌≤◌, []}
+use Rattle.std.specs.Prelude.{ℕ, ◌+◌, ◌^◌, ◌<◌, ◌≤◌}
 use Rattle.quiet_core.specs.declared.deed.Deed.{Deed}
 use Rattle.quiet_core.specs.declared.deed.Deed.TheVariants as deed
 use Rattle.quiet_core.specs.Account.{Shape, managers, root, Account, posts, acks, collects}
 use Rattle.quiet_core.specs.Step.{after}
-
--- a round in which nobody is scheduled
-abbrev pub no_actors : Shape
-no_actors = record { sched = []; parents = []; hands = 0 }
 
 -- the account after a deed, but for its marks
 abbrev pub noted : Shape → Deed → ℕ → Account → Account

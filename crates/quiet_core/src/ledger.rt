@@ -1,9 +1,9 @@
 ghost use Rattle.std.specs.Prelude.{◌≡◌, ◌<◌, ◌≤◌, ◌+◌, ◌^◌, true, false, cond, eqb, ltb};
-ghost use Rattle.quiet_core.specs.Account.{blank, has_met, posts, knows, acks, collects, has_duty, managers, scheduled};
+ghost use Rattle.quiet_core.specs.Account.{blank, no_actors, has_met, posts, knows, acks, collects, has_duty, managers, scheduled};
 ghost use Rattle.quiet_core.specs.Rows.{put, put_pair};
 ghost use Rattle.quiet_core.specs.Step.{settled, united, kept_part, new_part};
 ghost use Rattle.quiet_core.specs.Balance.{Sized};
-ghost use Rattle.quiet_core.specs.Noted.{no_actors, noted, Within, Roomy, RoomyBoth};
+ghost use Rattle.quiet_core.specs.Noted.{noted, Within, Roomy, RoomyBoth};
 
 use crate::deed::Deed;
 use crate::frame::Frame;

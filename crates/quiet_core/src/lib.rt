@@ -3,7 +3,9 @@
 //! is reached only then.
 #![tactic(auto)]
 
+mod accounts;
 mod deed;
+mod entry;
 mod event;
 mod frame;
 mod ledger;

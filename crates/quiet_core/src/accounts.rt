@@ -1,0 +1,133 @@
+ghost use Rattle.std.specs.Prelude.{◌≡◌, ◌≢◌, ◌<◌, ◌≤◌, ℕ, [], length, set, slice_index, eqb};
+ghost use Rattle.quiet_core.specs.Account.{account, mark, opened, plain, owing, free, managers};
+ghost use Rattle.quiet_core.specs.Step.{after, put_mark};
+ghost use Rattle.quiet_core.specs.Balance.{Sized};
+ghost use Rattle.quiet_core.specs.Noted.{noted, Within, Roomy};
+ghost use Rattle.quiet_core.specs.Entries.{Alone, Enters, mark_of, marked};
+
+use crate::deed::Deed;
+use crate::entry::Entry;
+use crate::frame::Frame;
+use crate::ledger::Ledger;
+use std::marker::Model;
+
+/// The accounts of all hands: a ledger for each, and one table of the scheduled actors, which says
+/// at which hand each of them is.
+#[derive(Drop)]
+pub(crate) struct Accounts {
+    ledgers: Vec<Ledger>,
+    numbers: Vec<Vec<Entry>>,
+}
+
+impl Model for Accounts {
+    ghost use Rattle.std.specs.Prelude.{length, map};
+    ghost use Rattle.quiet_core.specs.Entries.{Book, all_from};
+
+    ghost Value = { Book };
+
+    ghost view = { λ a. record {
+      sched = map (λ row. length row.items) a.numbers.items;
+      accounts = all_from 0 a.ledgers.items (map (λ row. row.items) a.numbers.items);
+    } };
+}
+
+impl Accounts {
+    /// How many hands.
+    pub(crate) fn hands(&self) -> usize
+        ensures { result ≡ length self.now.accounts }
+    {
+        self.ledgers.len()
+    }
+
+    /// The ledger of a hand: its account, but for its marks.
+    pub(crate) fn ledger(&self, hand: usize) -> &Ledger
+        requires { hand < length self.now.accounts }
+        ensures { result.now ≡ record (account self.now.accounts hand) { marks = result.now.marks } }
+    {
+        &self.ledgers[hand]
+    }
+
+    // Writes down what becomes of a scheduled actor at a hand.
+    fn enter(&mut self, hand: u32, m: usize, i: usize, entry: Entry)
+        requires hand { hand < length self.old.accounts }
+        requires manager { m < length self.old.sched }
+        requires number { i < slice_index self.old.sched m }
+        requires own { (g : ℕ) → g ≢ hand → mark_of g entry ≡ free }
+        requires alone { (g : ℕ) → g < length self.old.accounts → g ≢ hand → mark (account self.old.accounts g) m i ≡ free }
+        ensures sched { self.new.sched ≡ self.old.sched }
+        ensures accounts { self.new.accounts ≡ set self.old.accounts hand (put_mark (account self.old.accounts hand) m i (mark_of hand entry)) }
+    {
+        let _ = hand;
+        let row = &mut self.numbers[m];
+        row[i] = entry;
+    }
+
+    /// What became of an actor; nothing, where its manager has no such actor.
+    pub(crate) fn entry(&self, m: usize, i: usize) -> Entry
+        requires { m < length self.now.sched }
+        ensures { (h : ℕ) → h < length self.now.accounts → mark (account self.now.accounts h) m i ≡ mark_of h result }
+    {
+        let row = &self.numbers[m];
+        match row.get(i) {
+            Some(entry) => *entry,
+            None => Entry::Free,
+        }
+    }
+
+    // Writes down what a deed changes beside the actors.
+    fn note(&mut self, frame: &Frame, hand: u32, deed: Deed, found: u64)
+        requires sized { Sized frame.now }
+        requires within { Within frame.now deed }
+        requires hand { hand < length self.old.accounts }
+        requires roomy { Roomy deed found (account self.old.accounts hand) }
+        ensures sched { self.new.sched ≡ self.old.sched }
+        ensures accounts { self.new.accounts ≡ set self.old.accounts hand (noted frame.now deed found (account self.old.accounts hand)) }
+    {
+        let ledger = &mut self.ledgers[hand as usize];
+        ledger.note(frame, deed, found);
+    }
+
+    // Writes down what a deed changes of an actor.
+    fn mark(&mut self, frame: &Frame, hand: u32, deed: Deed, found: u64)
+        requires sized { Sized frame.now }
+        requires sched { self.old.sched ≡ frame.now.sched }
+        requires hand { hand < length self.old.accounts }
+        requires enters { Enters frame.now deed found self.old.accounts hand }
+        ensures sched { self.new.sched ≡ self.old.sched }
+        ensures accounts { self.new.accounts ≡ set self.old.accounts hand (marked frame.now deed found (account self.old.accounts hand)) }
+    {
+        match deed {
+            Deed::Claim { m } => {
+                if found < frame.scheduled(m) as u64 {
+                    self.enter(hand, m as usize, found as usize, Entry::Fresh { hand });
+                }
+            }
+            Deed::Raise { m, i, n } => {
+                self.enter(hand, m as usize, i as usize, Entry::Told { hand, left: n });
+            }
+            Deed::Post { m, i, n, .. } => {
+                let left = self.entry(m as usize, i as usize).owing(hand) - n;
+                self.enter(hand, m as usize, i as usize, Entry::Told { hand, left });
+            }
+            Deed::Done { m, i } => {
+                self.enter(hand, m as usize, i as usize, Entry::Reported { hand });
+            }
+            Deed::Collect { .. } | Deed::Look { .. } | Deed::Ack { .. } | Deed::Climb { .. } => {}
+        }
+    }
+
+    /// Writes down a deed, which found this number at its word.
+    pub(crate) fn act(&mut self, frame: &Frame, hand: u32, deed: Deed, found: u64)
+        requires sized { Sized frame.now }
+        requires within { Within frame.now deed }
+        requires sched { self.old.sched ≡ frame.now.sched }
+        requires hand { hand < length self.old.accounts }
+        requires roomy { Roomy deed found (account self.old.accounts hand) }
+        requires enters { Enters frame.now deed found self.old.accounts hand }
+        ensures sched { self.new.sched ≡ self.old.sched }
+        ensures accounts { self.new.accounts ≡ set self.old.accounts hand (after frame.now deed found (account self.old.accounts hand)) }
+    {
+        self.note(frame, hand, deed, found);
+        self.mark(frame, hand, deed, found);
+    }
+}

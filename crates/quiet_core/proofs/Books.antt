@@ -42,7 +42,7 @@ module _ (table table' : List (List Entry)) where
       → all_from 0 (set ls h l) table' ≡ set (all_from 0 ls table) h (whole h l table')
   set_all h ls l lt same = set_from 0 h h ls l (omega arith) lt (λ j a b ne. same j (omega arith) ne)
 
-get_or-any : {A : Type 0} (l : List A) (i : ℕ) (d e : A) → i < length l → get_or l i d ≡ get_or l i e
+pub get_or-any : {A : Type 0} (l : List A) (i : ℕ) (d e : A) → i < length l → get_or l i d ≡ get_or l i e
 get_or-any [] i d e l = absurd (omega arith)
 get_or-any (x ∷ xs) zero d e l = refl
 get_or-any (x ∷ xs) (suc i) d e l = get_or-any xs i d e (omega arith)

@@ -1,4 +1,6 @@
 pub mod Books
+pub mod Passes
+pub mod Moves
 pub mod Parts
 pub mod Blends
 pub mod Sums

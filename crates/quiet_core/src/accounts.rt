@@ -1,15 +1,16 @@
-ghost use Rattle.std.specs.Prelude.{◌≡◌, ◌≢◌, ◌<◌, ◌≤◌, ℕ, [], length, set, slice_index, eqb};
-ghost use Rattle.quiet_core.specs.Account.{account, mark, opened, plain, owing, free, managers};
-ghost use Rattle.quiet_core.specs.Step.{after, put_mark};
+ghost use Rattle.std.specs.Prelude.{◌≡◌, ◌≢◌, ◌<◌, ◌≤◌, ℕ, [], length, map, set, slice_index, eqb};
+ghost use Rattle.quiet_core.specs.Account.{account, blank, mark, opened, plain, owing, free, managers};
+ghost use Rattle.quiet_core.specs.Step.{after, put_mark, united, kept_part, new_part};
 ghost use Rattle.quiet_core.specs.Balance.{Sized};
-ghost use Rattle.quiet_core.specs.Noted.{noted, Within, Roomy};
-ghost use Rattle.quiet_core.specs.Entries.{Alone, Enters, mark_of, marked};
+ghost use Rattle.quiet_core.specs.Noted.{noted, Within, Roomy, RoomyBoth};
+ghost use Rattle.quiet_core.specs.Entries.{Alone, Enters, mark_of, marked, passed};
 
 use crate::deed::Deed;
 use crate::entry::Entry;
 use crate::frame::Frame;
 use crate::ledger::Ledger;
 use std::marker::Model;
+use std::mem;
 
 /// The accounts of all hands: a ledger for each, and one table of the scheduled actors, which says
 /// at which hand each of them is.
@@ -68,10 +69,7 @@ impl Accounts {
         ensures { (h : ℕ) → h < length self.now.accounts → mark (account self.now.accounts h) m i ≡ mark_of h result }
     {
         let row = &self.numbers[m];
-        match row.get(i) {
-            Some(entry) => *entry,
-            None => Entry::Free,
-        }
+        if i < row.len() { row[i] } else { Entry::Free }
     }
 
     // Writes down what a deed changes beside the actors.
@@ -129,5 +127,57 @@ impl Accounts {
     {
         self.note(frame, hand, deed, found);
         self.mark(frame, hand, deed, found);
+    }
+
+    /// A hand takes in the account of another, which is left empty and without weight.
+    pub(crate) fn join(&mut self, hand: u32, from: u32)
+        requires hand { hand < length self.old.accounts }
+        requires from { from < length self.old.accounts }
+        requires apart { from ≢ hand }
+        requires roomy { RoomyBoth (account self.old.accounts hand) (account self.old.accounts from) }
+        ensures sched { self.new.sched ≡ self.old.sched }
+        ensures accounts { self.new.accounts ≡ set (set self.old.accounts hand (united (account self.old.accounts hand) (account self.old.accounts from))) from (blank record { sched = self.old.sched; parents = []; hands = 0 }) }
+    {
+        let gone = mem::replace(&mut self.ledgers[from as usize], Ledger::new(0));
+        let ledger = &mut self.ledgers[hand as usize];
+        ledger.unite(&gone);
+        pass_all(&mut self.numbers, from, hand);
+    }
+
+    /// A hand gives one unit of weight to a hand that has none and has done nothing, and both
+    /// collect.
+    pub(crate) fn split(&mut self, hand: u32, new: u32)
+        requires hand { hand < length self.old.accounts }
+        requires new { new < length self.old.accounts }
+        requires apart { new ≢ hand }
+        requires weight { 1 ≤ (account self.old.accounts hand).weight }
+        requires empty { account self.old.accounts new ≡ blank record { sched = self.old.sched; parents = []; hands = 0 } }
+        ensures sched { self.new.sched ≡ self.old.sched }
+        ensures accounts { self.new.accounts ≡ set (set self.old.accounts hand (kept_part (account self.old.accounts hand))) new (new_part record { sched = self.old.sched; parents = []; hands = 0 } (account self.old.accounts hand)) }
+    {
+        let ledger = &mut self.ledgers[hand as usize];
+        ledger.give();
+        let part = Ledger::part(&self.ledgers[hand as usize]);
+        self.ledgers[new as usize] = part;
+    }
+}
+
+// The entries of one hand are another's.
+fn pass_row(row: &mut Vec<Entry>, from: u32, to: u32)
+    ensures { row.new.items ≡ map (passed from to) row.old.items }
+{
+    for n in 0..row.len() {
+        let entry = row[n];
+        row[n] = entry.passed(from, to);
+    }
+}
+
+// In all rows the entries of one hand are another's.
+fn pass_all(rows: &mut Vec<Vec<Entry>>, from: u32, to: u32)
+    ensures { map (λ row. row.items) rows.new.items ≡ map (λ row. map (passed from to) row) (map (λ row. row.items) rows.old.items) }
+{
+    for m in 0..rows.len() {
+        let row = &mut rows[m];
+        pass_row(row, from, to);
     }
 }

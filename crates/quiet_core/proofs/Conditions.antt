@@ -1,28 +1,30 @@
 -- Where no condition fails, the deed may be done.
-use Rattle.std.proofs.Common.{◌≡◌, Bool, true, false, not, ◌&&◌, cond, ltb, List, [], ◌∷◌, Option, Some, None, refl, sym, arith, ltb-true, leb-true, eqb-true}
+use Rattle.std.proofs.Common.{◌≡◌, ℕ, ◌<◌, length, leb, Bool, true, false, not, ◌&&◌, cond, ltb, List, [], ◌∷◌, Result, Ok, Err, refl, sym, arith, ltb-true, leb-true, eqb-true}
 use Rattle.quiet_core.specs.declared.deed.Deed.{Deed}
 use Rattle.quiet_core.specs.declared.deed.Deed.TheVariants as deed
-use Rattle.quiet_core.specs.Account.{Shape, managers, Mark, free, fresh, told, reported, twice, Account, plain}
-use Rattle.quiet_core.specs.Step.{May}
-use Rattle.quiet_core.specs.Conditions.{Check, checks, first_failing}
+use Rattle.quiet_core.specs.Account.{Shape, managers, root, Mark, free, fresh, told, reported, twice, Account, plain}
+use Rattle.quiet_core.specs.declared.refused.Refused.{Refused}
+use Rattle.quiet_core.specs.Step.{State, May}
+use Rattle.quiet_core.specs.Conditions.{Check, refused, verdict}
+use Rattle.quiet_core.specs.Event.{does, conditions, account_of}
 
-passed : (b : Bool) (c : Check) (r : Option Check) → cond b r (Some c) ≡ None → (b ≡ true) × (r ≡ None)
+passed : (b : Bool) (c : Refused) (r : Result (Unit {0}) Refused) → cond b r (Err c) ≡ Ok tt → (b ≡ true) × (r ≡ Ok tt)
 passed true c r e = (refl, e)
 passed false c r e = cc
 
-abbrev AllHold : List Check → Type 0
+abbrev pub AllHold : List Check → Type 0
 AllHold [] = Unit {0}
 AllHold (c ∷ cs) = (c.holds ≡ true) × AllHold cs
 
-all_hold : (cs : List Check) → first_failing cs ≡ None → AllHold cs
+pub all_hold : (cs : List Check) → verdict cs ≡ Ok tt → AllHold cs
 all_hold [] e = tt
-all_hold (c ∷ cs) e = let p = passed c.holds c (first_failing cs) e in (p.0, all_hold cs p.1)
+all_hold (c ∷ cs) e = let p = passed c.holds (refused c) (verdict cs) e in (p.0, all_hold cs p.1)
 
-was_not : (b : Bool) → not b ≡ true → b ≡ false
+pub was_not : (b : Bool) → not b ≡ true → b ≡ false
 was_not true e = sym e
 was_not false e = refl
 
-and_both : (a b : Bool) → a && b ≡ true → (a ≡ true) × (b ≡ true)
+pub and_both : (a b : Bool) → a && b ≡ true → (a ≡ true) × (b ≡ true)
 and_both true b e = (refl, e)
 and_both false b e = cc
 
@@ -33,14 +35,26 @@ is_fresh (told k) e = absurd (omega arith)
 is_fresh reported e = absurd (omega arith)
 is_fresh twice e = absurd (omega arith)
 
-pub checked : (t : Shape) (d : Deed) (a : Account) → first_failing (checks t d a) ≡ None → May t d a
-checked t (deed.Claim m) a e = let h = all_hold (checks t (deed.Claim m) a) e in (ltb-true _ _ h.0, leb-true _ _ h.1.0, was_not _ h.1.1.0, was_not _ h.1.1.1.0)
-checked t (deed.Raise m i n) a e = let h = all_hold (checks t (deed.Raise m i n) a) e in (ltb-true _ _ h.0, leb-true _ _ h.1.0, is_fresh _ (eqb-true _ _ h.1.1.1.0), leb-true _ _ h.1.1.1.1.0, leb-true _ _ h.1.1.1.1.1.0)
-checked t (deed.Post m i to n) a e = let h = all_hold (checks t (deed.Post m i to n) a) e in let b = and_both (ltb m (managers t)) (ltb to (managers t)) h.0 in
-    (ltb-true _ _ b.0, ltb-true _ _ b.1, leb-true _ _ h.1.0, eqb-true _ _ h.1.1.0, leb-true _ _ h.1.1.1.0, leb-true _ _ h.1.1.1.1.0)
-checked t (deed.Done m i) a e = let h = all_hold (checks t (deed.Done m i) a) e in (ltb-true _ _ h.0, leb-true _ _ h.1.0, eqb-true _ _ h.1.1.0, eqb-true _ _ h.1.1.1.0)
-checked t (deed.Collect n) a e = let h = all_hold (checks t (deed.Collect n) a) e in (ltb-true _ _ h.0, leb-true _ _ h.1.0)
-checked t (deed.Look m n) a e = let h = all_hold (checks t (deed.Look m n) a) e in let b = and_both (ltb m (managers t)) (ltb n (managers t)) h.0 in (ltb-true _ _ b.0, ltb-true _ _ b.1, leb-true _ _ h.1.0)
-checked t (deed.Ack m n k) a e = let h = all_hold (checks t (deed.Ack m n k) a) e in let b = and_both (ltb m (managers t)) (ltb n (managers t)) h.0 in
-    (ltb-true _ _ b.0, ltb-true _ _ b.1, leb-true _ _ h.1.0, eqb-true _ _ h.1.1.0, leb-true _ _ h.1.1.1.0, leb-true _ _ h.1.1.1.1.0)
-checked t (deed.Climb c) a e = let h = all_hold (checks t (deed.Climb c) a) e in (leb-true _ _ h.0, leb-true _ _ h.1.0, h.1.1.0)
+module _ (t : Shape) (s : State) (h : ℕ) where
+  abbrev a : Account
+  a = account_of s h
+
+  abbrev hand : Bool
+  hand = ltb h (length s.accounts)
+
+  -- where all conditions hold, the hand is one of the round and may do the deed
+  pub allowed : (d : Deed) → verdict (conditions t s (does h d)) ≡ Ok tt → (h < length s.accounts) × May t d a
+  allowed (deed.Claim m) e = let c = all_hold (conditions t s (does h (deed.Claim m))) e in let r = and_both hand (ltb m (managers t)) c.0 in
+      (ltb-true _ _ r.0, (ltb-true _ _ r.1, leb-true _ _ c.1.0, was_not _ c.1.1.0, was_not _ c.1.1.1.0))
+  allowed (deed.Raise m i n) e = let c = all_hold (conditions t s (does h (deed.Raise m i n))) e in let r = and_both hand (ltb m (managers t)) c.0 in
+      (ltb-true _ _ r.0, (ltb-true _ _ r.1, leb-true _ _ c.1.0, is_fresh _ (eqb-true _ _ c.1.1.1.0), leb-true _ _ c.1.1.1.1.0, leb-true _ _ c.1.1.1.1.1.0))
+  allowed (deed.Post m i to n) e = let c = all_hold (conditions t s (does h (deed.Post m i to n))) e in let r = and_both hand (ltb m (managers t) && ltb to (managers t)) c.0 in let b = and_both (ltb m (managers t)) (ltb to (managers t)) r.1 in
+      (ltb-true _ _ r.0, (ltb-true _ _ b.0, ltb-true _ _ b.1, leb-true _ _ c.1.0, eqb-true _ _ c.1.1.0, leb-true _ _ c.1.1.1.0, leb-true _ _ c.1.1.1.1.0))
+  allowed (deed.Done m i) e = let c = all_hold (conditions t s (does h (deed.Done m i))) e in let r = and_both hand (ltb m (managers t)) c.0 in
+      (ltb-true _ _ r.0, (ltb-true _ _ r.1, leb-true _ _ c.1.0, eqb-true _ _ c.1.1.0, eqb-true _ _ c.1.1.1.0))
+  allowed (deed.Collect n) e = let c = all_hold (conditions t s (does h (deed.Collect n))) e in let r = and_both hand (ltb n (managers t)) c.0 in (ltb-true _ _ r.0, (ltb-true _ _ r.1, leb-true _ _ c.1.0))
+  allowed (deed.Look m n) e = let c = all_hold (conditions t s (does h (deed.Look m n))) e in let r = and_both hand (ltb m (managers t) && ltb n (managers t)) c.0 in let b = and_both (ltb m (managers t)) (ltb n (managers t)) r.1 in
+      (ltb-true _ _ r.0, (ltb-true _ _ b.0, ltb-true _ _ b.1, leb-true _ _ c.1.0))
+  allowed (deed.Ack m n k) e = let c = all_hold (conditions t s (does h (deed.Ack m n k))) e in let r = and_both hand (ltb m (managers t) && ltb n (managers t)) c.0 in let b = and_both (ltb m (managers t)) (ltb n (managers t)) r.1 in
+      (ltb-true _ _ r.0, (ltb-true _ _ b.0, ltb-true _ _ b.1, leb-true _ _ c.1.0, eqb-true _ _ c.1.1.0, leb-true _ _ c.1.1.1.0, leb-true _ _ c.1.1.1.1.0))
+  allowed (deed.Climb c) e = let k = all_hold (conditions t s (does h (deed.Climb c))) e in let r = and_both hand (leb c (root t)) k.0 in (ltb-true _ _ r.0, (leb-true _ _ r.1, leb-true _ _ k.1.0, k.1.1.0))

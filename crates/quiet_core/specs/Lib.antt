@@ -3,6 +3,7 @@ pub mod Account
 pub mod Step
 pub mod Balance
 pub mod Conditions
+pub mod Event
 pub mod Wide
 pub mod Noted
 pub mod Entries

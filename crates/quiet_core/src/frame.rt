@@ -2,6 +2,7 @@ ghost use Rattle.std.specs.Prelude.{◌≡◌, ◌<◌, ◌≤◌, ◌+◌, ◌^
 ghost use Rattle.quiet_core.specs.Account.{managers, scheduled, root, parent};
 ghost use Rattle.quiet_core.specs.Step.{word_count, claim_at, coll_at, issued_at, place};
 ghost use Rattle.quiet_core.specs.Balance.{Sized};
+ghost use Rattle.quiet_core.specs.Conditions.{in_range};
 ghost use Rattle.quiet_core.specs.Noted.{Within};
 
 use crate::deed::Deed;
@@ -123,6 +124,24 @@ impl Frame {
             Deed::Post { m, to, .. } | Deed::Look { m, to } => self.issued_at(m, to),
             Deed::Collect { to } => self.coll_at(to),
             Deed::Climb { node } => self.parent(node) as usize,
+        }
+    }
+
+    /// Whether the managers and nodes of a deed are those of the round.
+    pub fn in_range(&self, deed: Deed) -> bool
+        requires { Sized self.now }
+        ensures { result ≡ in_range self.now deed }
+    {
+        let managers = self.managers();
+        match deed {
+            Deed::Claim { m } | Deed::Raise { m, .. } | Deed::Done { m, .. } => {
+                (m as usize) < managers
+            }
+            Deed::Post { m, to, .. } | Deed::Look { m, to } | Deed::Ack { m, to, .. } => {
+                (m as usize) < managers && (to as usize) < managers
+            }
+            Deed::Collect { to } => (to as usize) < managers,
+            Deed::Climb { node } => node as usize <= self.root(),
         }
     }
 }

@@ -17,15 +17,15 @@ const NODES: usize = 31;
 /// What a hand has done, but for the actors that it claimed and reported.
 #[derive(Drop)]
 pub(crate) struct Ledger {
-    pub(crate) weight: u32,
-    pub(crate) collecting: bool,
+    weight: u32,
+    collecting: bool,
     exhausted: [bool; MANAGERS],
     posted: Pairs,
     known: Pairs,
     acked: Pairs,
     collected: [u64; MANAGERS],
     duties: [bool; NODES],
-    pub(crate) at_root: bool,
+    at_root: bool,
 }
 
 impl Model for Ledger {
@@ -64,6 +64,24 @@ impl Ledger {
             duties: [false; NODES],
             at_root: false,
         }
+    }
+
+    pub(crate) fn weight(&self) -> u32
+        ensures { result ≡ self.now.weight }
+    {
+        self.weight
+    }
+
+    pub(crate) fn collecting(&self) -> bool
+        ensures { result ≡ self.now.collecting }
+    {
+        self.collecting
+    }
+
+    pub(crate) fn at_root(&self) -> bool
+        ensures { result ≡ self.now.at_root }
+    {
+        self.at_root
     }
 
     pub(crate) fn has_met(&self, m: usize) -> bool

@@ -4,6 +4,7 @@
 #![tactic(auto)]
 
 mod accounts;
+mod checks;
 mod deed;
 mod entry;
 mod event;

@@ -35,7 +35,7 @@ module _ (t : Shape) (s : State) (h : ℕ) (a : Account) (k : ℕ) (w : Balance 
   held : 1 ≤ duties_at k s
   held = let l = le_sum (λ (y : Account). bit (has_duty y k)) s.accounts h a at in let e : bit (has_duty a k) ≡ 1 = ap bit may.2 in omega arith
 
-  inside : k < root t
+  pub inside : k < root t
   inside = dite (dec_lt k (root t)) (λ l. l) (λ n. absurd (let z = w.climbs.none_above k (omega arith) in let e = held in omega arith))
 
   counts : (z : State) → cond (eqb (parent t k) j) (alive z k) 0 ≡ alive z k

@@ -32,7 +32,7 @@ module _ (t : Shape) (s : State) (h : ℕ) (a : Account) (w : Balance t s) (at :
   keeps (deed.Ack m n k) may = ack_keeps t s h a m n k w at may
   keeps (deed.Climb c) may = climb_keeps t s h a c w at may
 
-  up_fits : (d : Deed) (k : ℕ) → May t d a → turn d ≡ up k → word s (place t d) + k < 2 ^ 64
+  pub up_fits : (d : Deed) (k : ℕ) → May t d a → turn d ≡ up k → word s (place t d) + k < 2 ^ 64
   up_fits (deed.Claim m) k may e = let l = claim_fits t s h a m w at may in let is : 1 ≡ k = ap amount e in omega arith
   up_fits (deed.Raise m i n) k may e = let l = raise_fits t s h a m i n w at may in let is : n ≡ k = ap amount e in omega arith
   up_fits (deed.Post m i to n) k may e = let l = post_fits t s h a m i to n w at may in let is : n ≡ k = ap amount e in omega arith
@@ -42,7 +42,7 @@ module _ (t : Shape) (s : State) (h : ℕ) (a : Account) (w : Balance t s) (at :
   up_fits (deed.Ack m n j) k may e = cc
   up_fits (deed.Climb c) k may e = cc
 
-  down_fits : (d : Deed) (k : ℕ) → May t d a → turn d ≡ down k → k ≤ word s (place t d)
+  pub down_fits : (d : Deed) (k : ℕ) → May t d a → turn d ≡ down k → k ≤ word s (place t d)
   down_fits (deed.Claim m) k may e = cc
   down_fits (deed.Raise m i n) k may e = cc
   down_fits (deed.Post m i to n) k may e = cc

@@ -18,6 +18,8 @@ pub mod ClimbKeeps
 pub mod Parting
 pub mod Splitting
 pub mod Keeps
+pub mod Allowed
+pub mod Performs
 pub mod Quieted
 pub mod Opens
 pub mod Whole

@@ -71,5 +71,8 @@ answered (Err r) x = Err r
 abbrev pub answer : Standing → CoreEvent → Result ℕ Refused
 answer c e = answered (verdict (conditions c.shape c.state (move e))) (found c.shape c.state (move e))
 
+abbrev pub stepped : Standing → Move → Standing
+stepped c m = record c { state = if_allowed (verdict (conditions c.shape c.state m)) (moved c.shape c.state m) c.state }
+
 abbrev pub after_event : Standing → CoreEvent → Standing
-after_event c e = record c { state = if_allowed (verdict (conditions c.shape c.state (move e))) (moved c.shape c.state (move e)) c.state }
+after_event c e = stepped c (move e)

@@ -11,10 +11,12 @@ mod event;
 mod frame;
 mod ledger;
 mod pairs;
+mod round_core;
 mod rows;
 mod refused;
 
 pub use deed::Deed;
 pub use event::CoreEvent;
 pub use frame::Frame;
+pub use round_core::Core;
 pub use refused::{Condition, Refused};

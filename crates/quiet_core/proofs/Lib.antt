@@ -18,8 +18,10 @@ pub mod ClimbKeeps
 pub mod Parting
 pub mod Splitting
 pub mod Keeps
+pub mod Clearing
 pub mod Allowed
 pub mod Performs
+pub mod Hands
 pub mod Quieted
 pub mod Opens
 pub mod Whole

@@ -6,8 +6,11 @@ use Rattle.quiet_core.specs.Step.{State, word, place, word_count, turn, turned, 
 use Rattle.quiet_core.specs.Noted.{Roomy}
 use Rattle.quiet_core.specs.Entries.{Enters}
 use Rattle.quiet_core.specs.Balance.{Balance}
+use Rattle.quiet_core.specs.Clear.{Clear, AllClear}
+use Rattle.quiet_core.proofs.Sums.{each_turn}
+use Rattle.quiet_core.proofs.Clearing.{after_clear}
 use Rattle.quiet_core.proofs.Books.{get_or-any}
-use Rattle.quiet_core.proofs.Allowed.{sits, place_in, roomy, enters}
+use Rattle.quiet_core.proofs.Allowed.{sits, within, place_in, roomy, enters}
 use Rattle.quiet_core.proofs.Keeps.{keeps, up_fits, down_fits}
 
 module _ (t : Shape) (s : State) (h : ℕ) (d : Deed) (p : ℕ) (w : Balance t s) (lh : h < length s.accounts) (may : May t d (account s.accounts h)) (is : p ≡ place t d) where
@@ -45,3 +48,7 @@ module _ (t : Shape) (s : State) (h : ℕ) (d : Deed) (p : ℕ) (w : Balance t s
 
       pub hands_same : length ys ≡ length s.accounts
       hands_same = ap length acts ∙ length-set s.accounts h (after t d x a)
+
+      pub clear_still : AllClear t s.accounts → AllClear t ys
+      clear_still c = subst (λ (z : List Account). AllClear t z) (sym acts)
+          (each_turn (Clear t) s.accounts h (after t d x a) c (after_clear t d x a (within t s h w lh d may) (c h a (sits s.accounts h lh))))

@@ -1,7 +1,8 @@
-ghost use Rattle.std.specs.Prelude.{◌≡◌, ◌≢◌, ◌<◌, ◌≤◌, ◌+◌, ◌^◌, ℕ, length, IsTrue};
+ghost use Rattle.std.specs.Prelude.{◌≡◌, ◌≢◌, ◌<◌, ◌≤◌, ◌+◌, ◌^◌, ℕ, length, true};
 ghost use Rattle.quiet_core.specs.Account.{account};
 ghost use Rattle.quiet_core.specs.Step.{May, acted, place, turn, turned, up, down, word};
-ghost use Rattle.quiet_core.specs.Balance.{Balance, Quiet};
+ghost use Rattle.quiet_core.specs.Balance.{Balance};
+ghost use Rattle.quiet_core.specs.Quiet.{Quiet};
 ghost use Rattle.quiet_core.specs.Conditions.{verdict};
 ghost use Rattle.quiet_core.specs.Event.{account_of, after_event, answer, answered, conditions, does, joins, moved, splits, stepped};
 
@@ -25,13 +26,14 @@ pub struct Core {
 impl Model for Core {
     ghost use Rattle.std.specs.Prelude.{◌≡◌, ◌<◌, length};
     ghost use Rattle.quiet_core.specs.Balance.{Balance};
+    ghost use Rattle.quiet_core.specs.Clear.{AllClear};
     ghost use Rattle.quiet_core.specs.Event.{Standing};
 
     ghost Value = { Standing };
 
     ghost view = { λ c. record { shape = c.frame; state = record { words = c.words.items; accounts = c.accounts.accounts } } };
 
-    ghost invariant = { λ c. Balance c.frame record { words = c.words.items; accounts = c.accounts.accounts } × (c.accounts.sched ≡ c.frame.sched) × (length c.accounts.accounts ≡ c.frame.hands) };
+    ghost invariant = { λ c. Balance c.frame record { words = c.words.items; accounts = c.accounts.accounts } × (c.accounts.sched ≡ c.frame.sched) × (length c.accounts.accounts ≡ c.frame.hands) × AllClear c.frame c.accounts.accounts };
 }
 
 // What becomes of the word of a deed.
@@ -55,7 +57,8 @@ fn turned(deed: Deed, word: u64) -> u64
 impl Core {
     // Whether the conditions of a deed hold.
     fn check(&self, hand: u32, deed: Deed) -> Result<(), Refused>
-        ensures { result ≡ verdict (conditions self.now.shape self.now.state (does hand deed)) }
+        ensures verdict { result ≡ verdict (conditions self.now.shape self.now.state (does hand deed)) }
+        ensures balance { Balance self.now.shape self.now.state }
     {
         let known = (hand as usize) < self.accounts.hands();
         holds(Condition::InRange, known && self.frame.in_range(deed))?;
@@ -77,6 +80,7 @@ impl Core {
         requires hand { hand < length self.old.state.accounts }
         requires may { May self.old.shape deed (account_of self.old.state hand) }
         ensures word { result ≡ word self.old.state (place self.old.shape deed) }
+        ensures balance { Balance self.new.shape self.new.state }
         ensures state { self.new ≡ record self.old { state = acted self.old.shape hand (account_of self.old.state hand) deed self.old.state } }
     {
         let at = self.frame.place(deed);
@@ -90,6 +94,7 @@ impl Core {
     fn act(&mut self, hand: u32, deed: Deed) -> Result<u64, Refused>
         ensures answer { result ≡ answered (verdict (conditions self.old.shape self.old.state (does hand deed))) (word self.old.state (place self.old.shape deed)) }
         ensures state { self.new ≡ stepped self.old (does hand deed) }
+        ensures balance { Balance self.new.shape self.new.state }
     {
         self.check(hand, deed)?;
         Ok(self.perform(hand, deed))
@@ -97,7 +102,8 @@ impl Core {
 
     // Whether two hands may join.
     fn check_join(&self, hand: u32, from: u32) -> Result<(), Refused>
-        ensures { result ≡ verdict (conditions self.now.shape self.now.state (joins hand from)) }
+        ensures verdict { result ≡ verdict (conditions self.now.shape self.now.state (joins hand from)) }
+        ensures balance { Balance self.now.shape self.now.state }
     {
         let hands = self.accounts.hands();
         holds(
@@ -117,7 +123,8 @@ impl Core {
         requires from { from < length self.old.state.accounts }
         requires apart { from ≢ hand }
         requires weight { 1 ≤ (account_of self.old.state hand).weight }
-        ensures { self.new ≡ record self.old { state = moved self.old.shape self.old.state (joins hand from) } }
+        ensures balance { Balance self.new.shape self.new.state }
+        ensures state { self.new ≡ record self.old { state = moved self.old.shape self.old.state (joins hand from) } }
     {
         self.accounts.join(hand, from);
     }
@@ -126,6 +133,7 @@ impl Core {
     fn join(&mut self, hand: u32, from: u32) -> Result<u64, Refused>
         ensures answer { result ≡ answered (verdict (conditions self.old.shape self.old.state (joins hand from))) 0 }
         ensures state { self.new ≡ stepped self.old (joins hand from) }
+        ensures balance { Balance self.new.shape self.new.state }
     {
         self.check_join(hand, from)?;
         self.perform_join(hand, from);
@@ -134,7 +142,8 @@ impl Core {
 
     // Whether a hand may be split.
     fn check_split(&self, hand: u32, new: u32) -> Result<(), Refused>
-        ensures { result ≡ verdict (conditions self.now.shape self.now.state (splits hand new)) }
+        ensures verdict { result ≡ verdict (conditions self.now.shape self.now.state (splits hand new)) }
+        ensures balance { Balance self.now.shape self.now.state }
     {
         let hands = self.accounts.hands();
         holds(
@@ -156,7 +165,8 @@ impl Core {
         requires apart { new ≢ hand }
         requires weight { 2 ≤ (account_of self.old.state hand).weight }
         requires weightless { (account_of self.old.state new).weight ≡ 0 }
-        ensures { self.new ≡ record self.old { state = moved self.old.shape self.old.state (splits hand new) } }
+        ensures balance { Balance self.new.shape self.new.state }
+        ensures state { self.new ≡ record self.old { state = moved self.old.shape self.old.state (splits hand new) } }
     {
         self.accounts.split(hand, new);
     }
@@ -165,6 +175,7 @@ impl Core {
     fn split(&mut self, hand: u32, new: u32) -> Result<u64, Refused>
         ensures answer { result ≡ answered (verdict (conditions self.old.shape self.old.state (splits hand new))) 0 }
         ensures state { self.new ≡ stepped self.old (splits hand new) }
+        ensures balance { Balance self.new.shape self.new.state }
     {
         self.check_split(hand, new)?;
         self.perform_split(hand, new);
@@ -206,7 +217,7 @@ impl Core {
     pub fn holds_root(&self, hand: u32) -> bool
         requires { hand < self.now.shape.hands }
         ensures root { result ≡ (account_of self.now.state hand).at_root }
-        ensures quiet { IsTrue result → Quiet self.now.shape self.now.state.accounts }
+        ensures quiet { result ≡ true → Quiet self.now.shape.sched self.now.state.accounts }
     {
         self.accounts.ledger(hand as usize).at_root()
     }

@@ -24,6 +24,8 @@ pub mod Performs
 pub mod Hands
 pub mod Quieted
 pub mod Opens
+pub mod Free
+pub mod Counted
 pub mod Whole
 pub mod Conditions
 pub mod Meeting

@@ -1,5 +1,5 @@
 -- How the accounts of all hands are kept: a ledger for each hand, and one table of the scheduled actors.
-use Rattle.std.specs.Prelude.{◌≡◌, ◌≢◌, ℕ, suc, ◌-◌, ◌<◌, ◌≤◌, cond, eqb, ltb, List, [], ◌∷◌, map, length, get_or}
+use Rattle.std.specs.Prelude.{◌≡◌, ◌≢◌, ℕ, suc, ◌-◌, ◌<◌, ◌≤◌, cond, eqb, ltb, List, [], ◌∷◌, map, replicate, length, get_or}
 use Rattle.quiet_core.specs.declared.deed.Deed.{Deed}
 use Rattle.quiet_core.specs.declared.deed.Deed.TheVariants as deed
 use Rattle.quiet_core.specs.declared.entry.Entry.{Entry}
@@ -32,6 +32,10 @@ whole h ledger table = record ledger { marks = marks_of h table }
 abbrev pub all_from : ℕ → List Account → List (List Entry) → List Account
 all_from k [] table = []
 all_from k (l ∷ ls) table = whole k l table ∷ all_from (suc k) ls table
+
+-- the table of a round in which nobody has claimed anything
+abbrev pub free_table : List ℕ → List (List Entry)
+free_table sched = map (λ n. replicate n entry.Free) sched
 
 -- what contracts see of the accounts: how many actors each manager has, and the account of each hand
 pub record Book : Type 0 where

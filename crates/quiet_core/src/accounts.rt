@@ -1,14 +1,16 @@
-ghost use Rattle.std.specs.Prelude.{◌≡◌, ◌≢◌, ◌<◌, ◌≤◌, ℕ, [], length, map, set, slice_index, eqb};
-ghost use Rattle.quiet_core.specs.Account.{account, blank, mark, opened, plain, owing, free, managers};
+ghost use Rattle.std.specs.Prelude.{◌≡◌, ◌≢◌, ◌<◌, ◌≤◌, ℕ, [], length, map, replicate, set, slice_index, IfOk};
+ghost use Rattle.quiet_core.specs.Account.{account, blank, no_actors, mark, opened, plain, owing, free, managers};
 ghost use Rattle.quiet_core.specs.Step.{after, put_mark, united, kept_part, new_part};
 ghost use Rattle.quiet_core.specs.Balance.{Sized};
 ghost use Rattle.quiet_core.specs.Noted.{noted, Within, Roomy, RoomyBoth};
-ghost use Rattle.quiet_core.specs.Entries.{Alone, Enters, mark_of, marked, passed};
+ghost use Rattle.quiet_core.specs.Entries.{Enters, free_table, mark_of, marked, passed};
 
 use crate::deed::Deed;
 use crate::entry::Entry;
 use crate::frame::Frame;
 use crate::ledger::Ledger;
+use sim_base::Memory;
+use std::alloc::Global;
 use std::marker::Model;
 use std::mem;
 
@@ -32,7 +34,42 @@ impl Model for Accounts {
     } };
 }
 
+// The table of all scheduled actors, of which nobody has claimed one.
+fn free_numbers(alloc: Global, frame: &Frame) -> Result<Vec<Vec<Entry>>, Memory>
+    requires { Sized frame.now }
+    ensures { IfOk result (λ numbers. map (λ row. row.items) numbers.items ≡ free_table frame.now.sched) }
+{
+    let mut numbers = Vec::with_capacity(alloc, frame.managers())?;
+    for m in 0..frame.managers() {
+        let count = frame.scheduled(m as u32) as usize;
+        numbers.push(vec![in alloc; Entry::Free; count]?)?;
+    }
+    Ok(numbers)
+}
+
+// A ledger of weight 1 for each hand.
+fn new_ledgers(alloc: Global, hands: u32) -> Result<Vec<Ledger>, Memory>
+    ensures { IfOk result (λ ledgers. ledgers.items ≡ replicate hands (record (blank no_actors) { weight = 1 })) }
+{
+    let mut ledgers = Vec::with_capacity(alloc, hands as usize)?;
+    for _hand in 0..hands {
+        ledgers.push(Ledger::new(1))?;
+    }
+    Ok(ledgers)
+}
+
 impl Accounts {
+    /// The accounts of a round in which nobody has done anything. Err is want of memory.
+    pub(crate) fn of(alloc: Global, frame: &Frame) -> Result<Accounts, Memory>
+        requires { Sized frame.now }
+        ensures sched { IfOk result (λ accounts. accounts.sched ≡ frame.now.sched) }
+        ensures accounts { IfOk result (λ accounts. accounts.accounts ≡ replicate frame.now.hands (record (blank frame.now) { weight = 1 })) }
+    {
+        let numbers = free_numbers(alloc, frame)?;
+        let ledgers = new_ledgers(alloc, frame.hands())?;
+        Ok(Accounts { ledgers, numbers })
+    }
+
     /// How many hands.
     pub(crate) fn hands(&self) -> usize
         ensures { result ≡ length self.now.accounts }

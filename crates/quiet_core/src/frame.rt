@@ -2,10 +2,15 @@ ghost use Rattle.std.specs.Prelude.{◌≡◌, ◌<◌, ◌≤◌, ◌+◌, ◌^
 ghost use Rattle.quiet_core.specs.Account.{managers, scheduled, root, parent};
 ghost use Rattle.quiet_core.specs.Step.{word_count, claim_at, coll_at, issued_at, place};
 ghost use Rattle.quiet_core.specs.Balance.{Sized};
+ghost use Rattle.manager_tree.specs.Shape.{IsTree};
 ghost use Rattle.quiet_core.specs.Conditions.{in_range};
+ghost use Rattle.quiet_core.specs.Opening.{shape_over};
 ghost use Rattle.quiet_core.specs.Noted.{Within};
 
 use crate::deed::Deed;
+use manager_tree::Tree;
+use sim_base::{Memory, NodeId};
+use std::alloc::Global;
 use std::marker::Model;
 
 /// The shape of a round: how many actors are scheduled at each manager, the parent of each node but
@@ -35,6 +40,25 @@ impl Frame {
             parents,
             hands,
         }
+    }
+
+    /// The frame of a round over a tree, whose leaves are the managers. Err is want of memory.
+    pub fn of(alloc: Global, tree: &Tree, scheduled: &[u32], hands: u32) -> Result<Frame, Memory>
+        ensures shape { IfOk result (λ frame. frame ≡ shape_over tree.now scheduled.now hands) }
+        ensures tree { IfOk result (λ _. IsTree tree.now) }
+    {
+        let mut parents = Vec::with_capacity(alloc, tree.root().0 as usize)?;
+        let mut node = 0;
+        while let Some(parent) = tree.parent(NodeId(node)) {
+            parents.push(parent.0)?;
+            node += 1;
+        }
+        let scheduled = scheduled.to_vec(alloc)?;
+        Ok(Frame {
+            scheduled,
+            parents,
+            hands,
+        })
     }
 
     /// How many managers.

@@ -1,7 +1,8 @@
-ghost use Rattle.std.specs.Prelude.{◌≡◌, ◌≢◌, ◌<◌, ◌≤◌, ◌+◌, ◌^◌, ℕ, length, true};
+ghost use Rattle.std.specs.Prelude.{◌≡◌, ◌≢◌, ◌<◌, ◌≤◌, ◌+◌, ◌^◌, ℕ, length, slice_index, true, IfOk};
 ghost use Rattle.quiet_core.specs.Account.{account};
 ghost use Rattle.quiet_core.specs.Step.{May, acted, place, turn, turned, up, down, word};
-ghost use Rattle.quiet_core.specs.Balance.{Balance};
+ghost use Rattle.quiet_core.specs.Balance.{Balance, Sized};
+ghost use Rattle.quiet_core.specs.Opening.{IsOpened, Somebody, shape_over};
 ghost use Rattle.quiet_core.specs.Quiet.{Quiet};
 ghost use Rattle.quiet_core.specs.Conditions.{verdict};
 ghost use Rattle.quiet_core.specs.Event.{account_of, after_event, answer, answered, conditions, does, joins, moved, splits, stepped};
@@ -11,7 +12,11 @@ use crate::checks::{at_most, holds, to_ack, to_claim, to_climb, to_post, to_rais
 use crate::deed::Deed;
 use crate::event::CoreEvent;
 use crate::frame::Frame;
+use crate::opening::opening_words;
 use crate::refused::{Condition, Refused};
+use manager_tree::Tree;
+use sim_base::Memory;
+use std::alloc::Global;
 use std::marker::Model;
 
 /// A round, event by event: its counters, and the account of each hand. Contracts see the shape of
@@ -55,6 +60,41 @@ fn turned(deed: Deed, word: u64) -> u64
 }
 
 impl Core {
+    /// The core of a round over a tree, whose leaves are the managers: how many actors are scheduled
+    /// at each of them, at most 1,000,000, and how many hands there are, 1 to 64. Somebody is
+    /// scheduled. Each hand has a weight of 1 and has done nothing. Err is want of memory.
+    pub fn open(
+        alloc: Global,
+        tree: &Tree,
+        scheduled: &[u32],
+        hands: u32,
+    ) -> Result<Core, Memory>
+        requires leaves { length scheduled.now ≡ tree.now.leaves }
+        requires few { (m : ℕ) → m < length scheduled.now → slice_index scheduled.now m ≤ 1000000 }
+        requires somebody { (m : ℕ) × (m < length scheduled.now) × (1 ≤ slice_index scheduled.now m) }
+        requires least_hands { 1 ≤ hands }
+        requires most_hands { hands ≤ 64 }
+        ensures opening { IfOk result (λ core. IsOpened (shape_over tree.now scheduled.now hands) core) }
+    {
+        let frame = Frame::of(alloc, tree, scheduled, hands)?;
+        Core::over(alloc, frame)
+    }
+
+    // The core of a round of this shape.
+    fn over(alloc: Global, frame: Frame) -> Result<Core, Memory>
+        requires sized { Sized frame }
+        requires somebody { Somebody frame }
+        ensures { IfOk result (λ core. IsOpened frame core) }
+    {
+        let words = opening_words(alloc, &frame)?;
+        let accounts = Accounts::of(alloc, &frame)?;
+        Ok(Core {
+            frame,
+            words,
+            accounts,
+        })
+    }
+
     // Whether the conditions of a deed hold.
     fn check(&self, hand: u32, deed: Deed) -> Result<(), Refused>
         ensures verdict { result ≡ verdict (conditions self.now.shape self.now.state (does hand deed)) }

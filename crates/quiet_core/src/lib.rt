@@ -12,13 +12,15 @@ mod frame;
 mod ledger;
 mod opening;
 mod pairs;
+mod refused;
 mod round_core;
 mod rows;
-mod refused;
+#[cfg(test)]
+mod tests;
 
 pub use deed::Deed;
 pub use event::CoreEvent;
 pub use frame::Frame;
 pub use opening::opening_words;
-pub use round_core::Core;
 pub use refused::{Condition, Refused};
+pub use round_core::Core;

@@ -63,12 +63,7 @@ impl Core {
     /// The core of a round over a tree, whose leaves are the managers: how many actors are scheduled
     /// at each of them, at most 1,000,000, and how many hands there are, 1 to 64. Somebody is
     /// scheduled. Each hand has a weight of 1 and has done nothing. Err is want of memory.
-    pub fn open(
-        alloc: Global,
-        tree: &Tree,
-        scheduled: &[u32],
-        hands: u32,
-    ) -> Result<Core, Memory>
+    pub fn open(alloc: Global, tree: &Tree, scheduled: &[u32], hands: u32) -> Result<Core, Memory>
         requires leaves { length scheduled.now ≡ tree.now.leaves }
         requires few { (m : ℕ) → m < length scheduled.now → slice_index scheduled.now m ≤ 1000000 }
         requires somebody { (m : ℕ) × (m < length scheduled.now) × (1 ≤ slice_index scheduled.now m) }
@@ -106,8 +101,16 @@ impl Core {
         at_most(Condition::HasWeight, 1, ledger.weight() as u64)?;
         match deed {
             Deed::Claim { m } => to_claim(ledger, m as usize),
-            Deed::Raise { m, i, n } => to_raise(self.accounts.entry(m as usize, i as usize), hand, n),
-            Deed::Post { m, i, n, .. } => to_post(self.accounts.entry(m as usize, i as usize), hand, n),
+            Deed::Raise { m, i, n } => to_raise(
+                self.accounts.entry(m as usize, i as usize),
+                hand,
+                n,
+            ),
+            Deed::Post { m, i, n, .. } => to_post(
+                self.accounts.entry(m as usize, i as usize),
+                hand,
+                n,
+            ),
             Deed::Done { m, i } => to_report(self.accounts.entry(m as usize, i as usize), hand),
             Deed::Collect { .. } | Deed::Look { .. } => Ok(()),
             Deed::Ack { m, to, n } => to_ack(ledger, m as usize, to as usize, n),

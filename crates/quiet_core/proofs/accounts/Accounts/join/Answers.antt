@@ -22,7 +22,7 @@ unite-requires c =
     let y = c.index_mut-ledger.result.now in
     let is_x = ledger_book (λ row. row.items) ls c.self.inside.numbers.items g x _ c.self.view_is c.requires.from c.index_mut.ensures.value in
     let is_y = ledger_book (λ row. row.items) ls c.self.inside.numbers.items h y _ c.self.view_is c.requires.hand
-        (c.index_mut-ledger.ensures.value ∙ get_or-set_other ls g h c.replace-gone.new.dest y (λ e. c.requires.apart (sym e))) in
+    (c.index_mut-ledger.ensures.value ∙ get_or-set_other ls g h c.replace-gone.new.dest y (λ e. c.requires.apart (sym e))) in
     let r = c.requires.roomy in
     let A : Account = record (account c.args.self.now.accounts h) { marks = y.marks } in
     let C : Account = record (account c.args.self.now.accounts g) { marks = x.marks } in

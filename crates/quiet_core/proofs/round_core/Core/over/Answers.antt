@@ -12,8 +12,9 @@ invariant_of-result c =
     let ws = c.in_ok-words.words.items in
     let o = c.in_ok-words.ensures in
     let is = c.in_ok-accounts.ensures.accounts in
-    let one : Account = record (blank t) { weight = 1 } in
-    (subst (λ (xs : List Account). Balance t record { words = ws; accounts = xs }) (sym is) (hands_balance t ws o),
-    c.in_ok-accounts.ensures.sched,
-    ap length is ∙ hands_count t ws o t.hands one,
-    subst (λ (xs : List Account). AllClear t xs) (sym is) (all_of t ws o (Clear t) t.hands one (blank_clear t 1)))
+    let one : Account = record (blank t) { weight = 1 } in (
+      subst (λ (xs : List Account). Balance t record { words = ws; accounts = xs }) (sym is) (hands_balance t ws o),
+      c.in_ok-accounts.ensures.sched,
+      ap length is ∙ hands_count t ws o t.hands one,
+      subst (λ (xs : List Account). AllClear t xs) (sym is) (all_of t ws o (Clear t) t.hands one (blank_clear t 1)),
+    )

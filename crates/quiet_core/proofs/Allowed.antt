@@ -1,16 +1,16 @@
 -- A deed that may be done, in a state that has the balance: its word is there, no number leaves its range, and what it enters is no other hand's.
-use Rattle.std.proofs.Common.{◌≡◌, ◌≢◌, ℕ, zero, suc, ◌+◌, ◌^◌, ◌<◌, ◌≤◌, List, [], ◌∷◌, length, sum_by, refl, sym, ap, ◌∙◌, subst, arith, max}
+use Rattle.std.proofs.Common.{◌≡◌, ℕ, zero, suc, ◌+◌, ◌^◌, ◌<◌, ◌≤◌, List, [], ◌∷◌, length, sum_by, refl, ap, arith, max}
 use mathlib.Core.Option.{some}
 use mathlib.Core.Logic.{dite}
 use native.Mathlib.Decide.{dec_lt}
 use lib.ListN.{get_elem?}
 use Rattle.quiet_core.specs.declared.deed.Deed.{Deed}
 use Rattle.quiet_core.specs.declared.deed.Deed.TheVariants as deed
-use Rattle.quiet_core.specs.Account.{Shape, managers, scheduled, root, parent, Mark, free, fresh, Account, blank, account, mark, posts, knows, acks, entered, opened, owing}
+use Rattle.quiet_core.specs.Account.{Shape, managers, scheduled, Account, blank, account, mark, posts, knows, acks, entered, opened}
 use Rattle.quiet_core.specs.Step.{State, word, claim_at, issued_at, place, word_count, May}
 use Rattle.quiet_core.specs.Noted.{Within, Roomy}
 use Rattle.quiet_core.specs.Entries.{Alone, Enters}
-use Rattle.quiet_core.specs.Balance.{issued_from, Balance}
+use Rattle.quiet_core.specs.Balance.{Balance}
 use Rattle.quiet_core.proofs.Sums.{le_sum, le_sums, le_below, pair_below}
 use Rattle.quiet_core.proofs.Untouched.{nothing}
 use Rattle.quiet_core.proofs.Blank.{mark_none}

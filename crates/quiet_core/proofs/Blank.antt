@@ -1,5 +1,5 @@
 -- An account in which nothing was done.
-use Rattle.std.proofs.Common.{◌≡◌, ℕ, zero, suc, ◌+◌, false, ◌||◌, List, [], ◌∷◌, map, replicate, get_or, refl, ap, ◌∙◌, arith}
+use Rattle.std.proofs.Common.{◌≡◌, ℕ, zero, suc, false, ◌||◌, List, [], ◌∷◌, map, replicate, get_or, refl, ap, ◌∙◌, arith}
 use Rattle.quiet_core.specs.Rows.{below, at_pair}
 use Rattle.quiet_core.specs.Account.{Shape, managers, most_managers, most_nodes, Mark, free, blank, mark, has_met, posts, knows, acks, collects, has_duty}
 use Rattle.quiet_core.specs.Balance.{past, acked_at}

@@ -1,17 +1,15 @@
 -- Past the managers of a round nothing is ever written.
-use Rattle.std.proofs.Common.{◌≡◌, ◌≢◌, ℕ, ◌+◌, ◌-◌, ◌<◌, ◌≤◌, ◌⊎◌, inl, inr, ⊎_elim, Bool, true, false, cond, eqb, ltb, List, replicate, get_or, set, refl, sym, ap, ◌∙◌, subst, arith, zero-add, add-zero}
-use mathlib.Core.Option.{some}
+use Rattle.std.proofs.Common.{◌≡◌, ℕ, ◌+◌, ◌-◌, ◌<◌, ◌⊎◌, inl, inr, ⊎_elim, true, false, cond, eqb, ltb, List, sym, ap, ◌∙◌, subst, arith, zero-add, add-zero}
 use mathlib.Core.Logic.{dite}
 use native.Mathlib.Decide.{ℕ_discrete, dec_lt}
-use lib.ListN.{get_elem?}
 use Rattle.quiet_core.specs.declared.deed.Deed.{Deed}
 use Rattle.quiet_core.specs.declared.deed.Deed.TheVariants as deed
 use Rattle.quiet_core.specs.Rows.{put, put_pair, at_pair}
-use Rattle.quiet_core.specs.Account.{Shape, managers, scheduled, root, parent, Mark, fresh, told, reported, Account, blank, posts, acks, collects}
+use Rattle.quiet_core.specs.Account.{Shape, managers, scheduled, root, parent, fresh, reported, Account, blank, posts, acks, collects}
 use Rattle.quiet_core.specs.Step.{after, settled, put_mark, united, kept_part, new_part}
 use Rattle.quiet_core.specs.Noted.{Within}
-use Rattle.quiet_core.specs.Clear.{Inside, Clear, AllClear}
-use Rattle.quiet_core.proofs.Sums.{put_else, pair_beside, pair_apart, pairs_blend, blend_at, each_turn}
+use Rattle.quiet_core.specs.Clear.{Inside, Clear}
+use Rattle.quiet_core.proofs.Sums.{put_else, pair_beside, pair_apart, pairs_blend, blend_at}
 use Rattle.quiet_core.proofs.Untouched.{by_test}
 use Rattle.quiet_core.proofs.Blank.{posts_none, acks_none, collects_none}
 

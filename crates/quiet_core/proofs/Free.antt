@@ -1,7 +1,7 @@
 -- The accounts of hands that have done nothing.
-use Rattle.std.proofs.Common.{◌≡◌, ℕ, zero, suc, List, [], ◌∷◌, map, replicate, length, refl, sym, ap, ◌∙◌, arith, ◌+◌}
+use Rattle.std.proofs.Common.{◌≡◌, ℕ, zero, suc, List, [], ◌∷◌, map, replicate, length, refl, ap, arith}
 use Rattle.quiet_core.specs.declared.entry.Entry.TheVariants as entry
-use Rattle.quiet_core.specs.Account.{Shape, Mark, free, Account, blank, no_actors}
+use Rattle.quiet_core.specs.Account.{Shape, Mark, free, blank, no_actors}
 use Rattle.quiet_core.specs.Entries.{mark_of, marks_of, whole, all_from, free_table}
 
 free_row : (h n : ℕ) → map (mark_of h) (replicate n entry.Free) ≡ replicate n free

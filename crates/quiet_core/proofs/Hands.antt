@@ -5,9 +5,9 @@ use lib.ListN.{get_elem?}
 use Rattle.quiet_core.specs.Account.{Shape, managers, Account, blank, account, posts, acks, collects}
 use Rattle.quiet_core.specs.Step.{State, word, issued_at, united, joined, kept_part, new_part, split}
 use Rattle.quiet_core.specs.Noted.{RoomyBoth}
-use Rattle.quiet_core.specs.Clear.{Inside, Clear, AllClear}
-use Rattle.quiet_core.specs.Balance.{acked_at, issued_from, Balance}
-use Rattle.quiet_core.proofs.Sums.{set_else, le_sums, le_below, each_turn}
+use Rattle.quiet_core.specs.Clear.{Clear, AllClear}
+use Rattle.quiet_core.specs.Balance.{Balance}
+use Rattle.quiet_core.proofs.Sums.{le_sums, le_below, each_turn}
 use Rattle.quiet_core.proofs.Blank.{posts_none, acks_none, collects_none}
 use Rattle.quiet_core.proofs.Acks.{pair_acked}
 use Rattle.quiet_core.proofs.Parting.{join_keeps}

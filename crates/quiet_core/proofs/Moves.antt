@@ -1,11 +1,10 @@
 -- The accounts after a join and after a split.
-use Rattle.std.proofs.Common.{◌≡◌, ◌≢◌, ℕ, zero, suc, ◌+◌, ◌<◌, ◌≤◌, List, [], ◌∷◌, map, replicate, length, get_or, set, refl, sym, ap, ◌∙◌, subst, arith, length-set, get_or-set_other, get_or-set_same}
+use Rattle.std.proofs.Common.{◌≡◌, ◌≢◌, ℕ, suc, ◌<◌, List, [], ◌∷◌, map, replicate, length, get_or, set, refl, sym, ap, ◌∙◌, subst, arith, length-set, get_or-set_other, get_or-set_same}
 use mathlib.Core.Logic.{dite}
 use native.Mathlib.Decide.{ℕ_discrete}
 use Rattle.quiet_core.specs.declared.entry.Entry.{Entry}
-use Rattle.quiet_core.specs.Rows.{blend}
 use Rattle.quiet_core.specs.Account.{Shape, Mark, free, Account, blank, no_actors, nobody, account}
-use Rattle.quiet_core.specs.Step.{meet, united, kept_part, new_part}
+use Rattle.quiet_core.specs.Step.{united, kept_part, new_part}
 use Rattle.quiet_core.specs.Entries.{marks_of, whole, all_from, Book}
 use Rattle.quiet_core.proofs.Books.{book, length_all, at_all, set_all, get_or-any}
 use Rattle.quiet_core.proofs.Passes.{passed_table, table_gone, table_taken, table_else, lengths_of}

@@ -1,5 +1,5 @@
 -- A deed changes an account in two parts: what stands beside the marks, and the marks.
-use Rattle.std.proofs.Common.{◌≡◌, ℕ, Bool, true, false, ◌-◌, ◌+◌, ◌<◌, ◌≢◌, cond, eqb, ltb, List, [], length, get_or, set, refl, sym, ap, ◌∙◌, arith, length-set, get_or-set_other, get_or-set_same}
+use Rattle.std.proofs.Common.{◌≡◌, ℕ, Bool, true, false, ◌-◌, ◌+◌, ◌<◌, cond, eqb, ltb, List, [], length, get_or, set, refl, sym, ap, ◌∙◌, arith, length-set, get_or-set_other, get_or-set_same}
 use Rattle.quiet_core.specs.declared.deed.Deed.{Deed}
 use Rattle.quiet_core.specs.declared.deed.Deed.TheVariants as deed
 use Rattle.quiet_core.specs.Rows.{put, put_pair}

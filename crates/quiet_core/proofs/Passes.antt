@@ -1,5 +1,5 @@
 -- A row whose entries pass from one hand to another.
-use Rattle.std.proofs.Common.{◌≡◌, ◌≢◌, ℕ, zero, suc, ◌+◌, ◌<◌, ◌≤◌, Bool, true, false, cond, eqb, List, [], ◌∷◌, map, replicate, length, get_or, set, refl, sym, ap, ◌∙◌, add-one, arith, eq-eqb, ne_eqb}
+use Rattle.std.proofs.Common.{◌≡◌, ◌≢◌, ℕ, zero, suc, ◌+◌, ◌<◌, ◌≤◌, Bool, cond, eqb, List, [], ◌∷◌, map, replicate, length, get_or, set, refl, sym, ap, ◌∙◌, add-one, arith, eq-eqb, ne_eqb}
 use mathlib.Core.Logic.{dite}
 use native.Mathlib.Decide.{ℕ_discrete}
 use Rattle.quiet_core.specs.declared.entry.Entry.{Entry}

@@ -1,8 +1,8 @@
 -- What the code of a deed needs to know, and the state that it leaves.
-use Rattle.std.proofs.Common.{◌≡◌, ℕ, ◌+◌, ◌^◌, ◌<◌, ◌≤◌, List, length, get_or, set, refl, sym, ap, ◌∙◌, subst, arith, length-set}
+use Rattle.std.proofs.Common.{◌≡◌, ℕ, ◌+◌, ◌^◌, ◌<◌, ◌≤◌, List, length, get_or, set, sym, ap, ◌∙◌, subst, arith, length-set}
 use Rattle.quiet_core.specs.declared.deed.Deed.{Deed}
 use Rattle.quiet_core.specs.Account.{Shape, Account, account}
-use Rattle.quiet_core.specs.Step.{State, word, place, word_count, turn, turned, up, down, after, May, acted}
+use Rattle.quiet_core.specs.Step.{State, word, place, turn, turned, up, down, after, May, acted}
 use Rattle.quiet_core.specs.Noted.{Roomy}
 use Rattle.quiet_core.specs.Entries.{Enters}
 use Rattle.quiet_core.specs.Balance.{Balance}

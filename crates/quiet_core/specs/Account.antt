@@ -1,5 +1,5 @@
 -- The shape of a round, and what a hand has done in it.
-use Rattle.std.specs.Prelude.{ℕ, Bool, false, List, [], length, slice_index, get_or, replicate, map, ◌+◌}
+use Rattle.std.specs.Prelude.{ℕ, Bool, false, List, [], length, slice_index, get_or, replicate, map}
 use Rattle.quiet_core.specs.Rows.{at_pair}
 
 -- How many actors are scheduled at each manager, the parent of each node but the root, and how many hands there are. Managers are the first nodes, and the root is the last.
@@ -8,6 +8,7 @@ pub record Shape : Type 0 where
   pub parents : List ℕ
   pub hands : ℕ
 
+-- the managers, how many actors are scheduled at one, the root, and the parent of a node
 abbrev pub managers : Shape → ℕ
 managers t = length t.sched
 
@@ -28,15 +29,23 @@ pub data Mark : Type 0 where
   reported : Mark
   twice : Mark
 
+-- what a hand has done
 pub record Account : Type 0 where
+  -- its part of the round's weight, which is the number of hands
   pub weight : ℕ
+  -- whether it claims no more
   pub collecting : Bool
+  -- by manager, whether it found every number claimed
   pub exhausted : List Bool
+  -- by manager and number, what became of the scheduled actors
   pub marks : List (List Mark)
+  -- by the manager of the senders and that of the recipients, how many letters it posted, knows to be posted, and acknowledged
   pub posted : List (List ℕ)
   pub known : List (List ℕ)
   pub acked : List (List ℕ)
+  -- by manager, how often it became the collector of the letters to its actors: 0 or 1
   pub collected : List ℕ
+  -- by node, whether it holds a duty there; and whether it holds Root
   pub duties : List Bool
   pub at_root : Bool
 
@@ -51,6 +60,7 @@ most_nodes = 31
 abbrev pub no_pairs : List (List ℕ)
 no_pairs = replicate most_managers (replicate most_managers 0)
 
+-- the account of a hand that has done nothing, without weight
 abbrev pub blank : Shape → Account
 blank t = record {
   weight = 0;
@@ -76,6 +86,7 @@ nobody = blank no_actors
 abbrev pub account : List Account → ℕ → Account
 account xs h = get_or xs h nobody
 
+-- what an account says of a number, a manager, a pair or a node
 abbrev pub mark : Account → ℕ → ℕ → Mark
 mark a m i = get_or (get_or a.marks m []) i free
 

@@ -1,10 +1,11 @@
--- The steps of a round.
+-- The steps of a round: of what a hand does, the word, what becomes of it, the account after it, and the conditions; and the moves of hands.
 use Rattle.std.specs.Prelude.{◌≡◌, ℕ, ◌+◌, ◌-◌, ◌*◌, ◌<◌, ◌≤◌, true, false, ◌||◌, cond, eqb, ltb, List, [], ◌∷◌, ◌++◌, get_or, set, max}
 use Rattle.quiet_core.specs.Rows.{put, blend, put_pair}
 use Rattle.quiet_core.specs.Account.{Shape, managers, scheduled, root, parent, Mark, free, fresh, told, reported, twice, Account, blank, mark, has_met, posts, knows, acks, collects, has_duty, opened, owing}
 use Rattle.quiet_core.specs.declared.deed.Deed.{Deed}
 use Rattle.quiet_core.specs.declared.deed.Deed.TheVariants as deed
 
+-- the words and the accounts of a round, of any length
 pub record State : Type 0 where
   pub words : List ℕ
   pub accounts : List Account
@@ -59,6 +60,7 @@ turn (deed.Look m n) = stays
 turn (deed.Ack m n k) = down k
 turn (deed.Climb c) = down 1
 
+-- the number i of m becomes k at a hand
 abbrev pub put_mark : Account → ℕ → ℕ → Mark → Account
 put_mark a m i k = record a { marks = put [] a.marks m (put free (get_or a.marks m []) i k) }
 
@@ -81,6 +83,7 @@ after t (deed.Look m n) x a = record a { known = put_pair a.known m n x }
 after t (deed.Ack m n k) x a = settled t m (x - k) (record a { acked = put_pair a.acked m n (acks a m n + k) })
 after t (deed.Climb c) x a = settled t (parent t c) (x - 1) (record a { duties = put false a.duties c false })
 
+-- the conditions of a deed on the account of its hand
 abbrev pub May : Shape → Deed → Account → Type 0
 May t (deed.Claim m) a = (m < managers t) × (1 ≤ a.weight) × (a.collecting ≡ false) × (has_met a m ≡ false)
 May t (deed.Raise m i n) a = (m < managers t) × (1 ≤ a.weight) × (mark a m i ≡ fresh) × (1 ≤ n) × (n ≤ 1024)
@@ -95,6 +98,7 @@ May t (deed.Climb c) a = (c ≤ root t) × (1 ≤ a.weight) × (has_duty a c ≡
 abbrev pub acted : Shape → ℕ → Account → Deed → State → State
 acted t h a d s = record { words = set s.words (place t d) (turned (turn d) (word s (place t d))); accounts = set s.accounts h (after t d (word s (place t d)) a) }
 
+-- a number at two hands that join
 abbrev pub meet : Mark → Mark → Mark
 meet free l = l
 meet k free = k
@@ -126,6 +130,7 @@ kept_part a = record a { weight = a.weight - 1; collecting = true }
 abbrev pub new_part : Shape → Account → Account
 new_part t a = record (blank t) { weight = 1; collecting = true; known = a.known }
 
+-- one unit of the weight of h goes to g, and both collect from then on
 abbrev pub split : Shape → ℕ → Account → ℕ → State → State
 split t h a g s = record s { accounts = set (set s.accounts h (kept_part a)) g (new_part t a) }
 

@@ -31,17 +31,6 @@ impl Model for Frame {
 }
 
 impl Frame {
-    /// The frame of these numbers. It takes no memory.
-    pub fn new(scheduled: Vec<u32>, parents: Vec<u32>, hands: u32) -> Frame
-        ensures { result ≡ record { sched = scheduled.items; parents = parents.items; hands = hands } }
-    {
-        Frame {
-            scheduled,
-            parents,
-            hands,
-        }
-    }
-
     /// The frame of a round over a tree, whose leaves are the managers. Err is want of memory.
     pub fn of(alloc: Global, tree: &Tree, scheduled: &[u32], hands: u32) -> Result<Frame, Memory>
         ensures shape { IfOk result (λ frame. frame ≡ shape_over tree.now scheduled.now hands) }

@@ -1,4 +1,4 @@
-use Rattle.std.proofs.Common.{◌<◌, ◌≤◌, ◌∙◌, List, length, map, ap, arith}
+use Rattle.std.proofs.Common.{◌<◌, ◌≤◌, ◌∙◌, List, length, map, arith}
 use lib.ListN.{length-map}
 use Rattle.quiet_core.specs.declared.entry.Entry.{Entry}
 use Rattle.quiet_core.specs.Entries.{passed}

@@ -1,4 +1,4 @@
-use Rattle.std.proofs.Common.{◌≡◌, ◌≤◌, ◌<◌, ◌∙◌, ap, arith, length, refl, ◌+◌}
+use Rattle.std.proofs.Common.{◌≤◌, ◌<◌, ◌∙◌, arith, length, refl, ◌+◌}
 use Rattle.quiet_core.proofs.Blends.{all_below, one_more, read_so_far}
 use Rattle.quiet_core.proofs.rows.add_row.Goals as goal
 

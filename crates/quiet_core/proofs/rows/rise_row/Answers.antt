@@ -1,5 +1,5 @@
-use Rattle.std.proofs.Common.{◌≡◌, ◌≤◌, ◌<◌, ◌∙◌, ap, arith, length, refl, max}
-use Rattle.quiet_core.proofs.Blends.{all_below, one_more, read_so_far}
+use Rattle.std.proofs.Common.{◌≤◌, ◌<◌, ◌∙◌, arith, length, max}
+use Rattle.quiet_core.proofs.Blends.{all_below, one_more}
 use Rattle.quiet_core.proofs.rows.rise_row.Goals as goal
 
 pub loop-n-preserved : goal.loop-n-preserved

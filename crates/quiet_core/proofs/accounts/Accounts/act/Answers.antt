@@ -1,4 +1,4 @@
-use Rattle.std.proofs.Common.{◌≡◌, ◌∙◌, List, ap, set, refl, sym, subst, get_or-set_same}
+use Rattle.std.proofs.Common.{◌∙◌, List, ap, set, refl, sym, subst, get_or-set_same}
 use Rattle.std.proofs.lemmas.List.{set-set}
 use Rattle.quiet_core.specs.Account.{Account, account, nobody}
 use Rattle.quiet_core.specs.Noted.{noted}

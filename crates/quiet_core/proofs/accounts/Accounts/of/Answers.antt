@@ -1,7 +1,7 @@
 use Rattle.std.proofs.Common.{ℕ, ◌∙◌, List, replicate, map, length, ap}
 use Rattle.quiet_core.specs.declared.entry.Entry.{Entry}
 use Rattle.quiet_core.specs.Account.{Account, blank, no_actors}
-use Rattle.quiet_core.specs.Entries.{all_from, free_table}
+use Rattle.quiet_core.specs.Entries.{all_from}
 use Rattle.quiet_core.proofs.Passes.{lengths_of}
 use Rattle.quiet_core.proofs.Free.{free_lengths, all_free}
 use Rattle.quiet_core.proofs.accounts.Accounts.of.Goals as goal

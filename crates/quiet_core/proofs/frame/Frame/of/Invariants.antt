@@ -1,5 +1,5 @@
 use Rattle.std.proofs.Common.{◌≡◌, ◌≤◌, ◌-◌, take}
-use Rattle.manager_tree.specs.Shape.{IsTree, root_of}
+use Rattle.manager_tree.specs.Shape.{root_of}
 use Rattle.quiet_core.proofs.frame.Frame.of.Given as goal
 
 abbrev pub invariant-loop-parent : goal.invariant-loop-parent

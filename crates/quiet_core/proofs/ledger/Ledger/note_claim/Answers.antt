@@ -1,5 +1,5 @@
-use Rattle.std.proofs.Common.{◌≡◌, ◌<◌, ◌∙◌, ℕ, Bool, true, false, List, length, ap, sym, cond, eqb, ltb, arith, eq-eqb, ne_eqb}
-use Rattle.quiet_core.specs.Account.{Account, scheduled, root}
+use Rattle.std.proofs.Common.{◌<◌, ◌∙◌, Bool, true, false, List, length, ap, sym, cond, arith}
+use Rattle.quiet_core.specs.Account.{Account, scheduled}
 use Rattle.quiet_core.specs.Rows.{put}
 use Rattle.quiet_core.specs.contracts.ledger.Ledger.{the_view}
 use Rattle.quiet_core.proofs.Sums.{put_is_set}

@@ -1,6 +1,6 @@
-use Rattle.std.proofs.Common.{◌≡◌, ◌≤◌, ◌<◌, ◌∙◌, [], length, ap, sym, arith, max, List, ℕ}
+use Rattle.std.proofs.Common.{◌≡◌, ◌≤◌, ◌<◌, ◌∙◌, [], length, ap, arith, max, List, ℕ}
 use Rattle.quiet_core.specs.Rows.{blend}
-use Rattle.quiet_core.proofs.Blends.{all_below, one_more, read_so_far, stays_wide}
+use Rattle.quiet_core.proofs.Blends.{all_below, one_more, stays_wide}
 use Rattle.quiet_core.proofs.pairs.Pairs.rise.Goals as goal
 
 pub invariant_of-self : goal.invariant_of-self

@@ -1,4 +1,4 @@
-use Rattle.std.proofs.Common.{◌∙◌, List, replicate, length, ap, sym, subst}
+use Rattle.std.proofs.Common.{◌∙◌, List, length, ap, sym, subst}
 use Rattle.quiet_core.specs.Account.{Account, blank}
 use Rattle.quiet_core.specs.Balance.{Balance}
 use Rattle.quiet_core.specs.Clear.{Clear, AllClear}

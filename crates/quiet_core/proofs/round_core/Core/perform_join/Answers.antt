@@ -1,4 +1,4 @@
-use Rattle.std.proofs.Common.{◌≡◌, ◌<◌, ◌≤◌, ◌∙◌, length, ap, sym, subst}
+use Rattle.std.proofs.Common.{◌<◌, ◌≤◌, ◌∙◌, length, ap, sym, subst}
 use Rattle.quiet_core.specs.Step.{State}
 use Rattle.quiet_core.specs.Event.{Standing, account_of, moved, joins}
 use Rattle.quiet_core.proofs.Hands.{roomy_both, joined_is, joined_kept, joined_hands, joined_clear}

@@ -1,0 +1,12 @@
+pub mod Rows
+pub mod Account
+pub mod Step
+pub mod Balance
+pub mod Conditions
+pub mod Event
+pub mod Quiet
+pub mod Opening
+pub mod Clear
+pub mod Wide
+pub mod Noted
+pub mod Entries

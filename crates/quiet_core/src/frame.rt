@@ -1,0 +1,160 @@
+ghost use Rattle.std.specs.Prelude.{◌≡◌, ◌<◌, ◌≤◌, ◌+◌, ◌^◌, ℕ, length, IfOk};
+ghost use Rattle.quiet_core.specs.Account.{managers, scheduled, root, parent};
+ghost use Rattle.quiet_core.specs.Step.{word_count, claim_at, coll_at, issued_at, place};
+ghost use Rattle.quiet_core.specs.Balance.{Sized};
+ghost use Rattle.manager_tree.specs.Shape.{IsTree};
+ghost use Rattle.quiet_core.specs.Conditions.{in_range};
+ghost use Rattle.quiet_core.specs.Opening.{shape_over};
+ghost use Rattle.quiet_core.specs.Noted.{Within};
+
+use crate::deed::Deed;
+use manager_tree::Tree;
+use sim_base::{Memory, NodeId};
+use std::alloc::Global;
+use std::marker::Model;
+
+/// The shape of a round: how many actors are scheduled at each manager, the parent of each node but
+/// the root, and how many hands there are.
+#[derive(Drop)]
+pub struct Frame {
+    scheduled: Vec<u32>,
+    parents: Vec<u32>,
+    hands: u32,
+}
+
+impl Model for Frame {
+    ghost use Rattle.quiet_core.specs.Account.{Shape};
+
+    ghost Value = { Shape };
+
+    ghost view = { λ f. record { sched = f.scheduled.items; parents = f.parents.items; hands = f.hands } };
+}
+
+impl Frame {
+    /// The frame of a round over a tree, whose leaves are the managers. Err is want of memory.
+    pub fn of(alloc: Global, tree: &Tree, scheduled: &[u32], hands: u32) -> Result<Frame, Memory>
+        ensures shape { IfOk result (λ frame. frame ≡ shape_over tree.now scheduled.now hands) }
+        ensures tree { IfOk result (λ _. IsTree tree.now) }
+    {
+        let mut parents = Vec::with_capacity(alloc, tree.root().0 as usize)?;
+        let mut node = 0;
+        while let Some(parent) = tree.parent(NodeId(node)) {
+            parents.push(parent.0)?;
+            node += 1;
+        }
+        let scheduled = scheduled.to_vec(alloc)?;
+        Ok(Frame {
+            scheduled,
+            parents,
+            hands,
+        })
+    }
+
+    /// How many managers.
+    pub fn managers(&self) -> usize
+        ensures { result ≡ managers self.now }
+    {
+        self.scheduled.len()
+    }
+
+    /// How many actors are scheduled at a manager.
+    pub fn scheduled(&self, m: u32) -> u32
+        requires { m < managers self.now }
+        ensures { result ≡ scheduled self.now m }
+    {
+        self.scheduled[m as usize]
+    }
+
+    /// The root, which is the last node.
+    pub fn root(&self) -> usize
+        ensures { result ≡ root self.now }
+    {
+        self.parents.len()
+    }
+
+    /// The node above a node that isn't the root.
+    pub fn parent(&self, node: u32) -> u32
+        requires { node < root self.now }
+        ensures { result ≡ parent self.now node }
+    {
+        self.parents[node as usize]
+    }
+
+    /// How many hands.
+    pub fn hands(&self) -> u32
+        ensures { result ≡ self.now.hands }
+    {
+        self.hands
+    }
+
+    /// How many words the counters of the round take.
+    pub fn word_count(&self) -> usize
+        requires { Sized self.now }
+        ensures { result ≡ word_count self.now }
+    {
+        let managers = self.managers();
+        self.root() + 1 + managers + managers + managers * managers
+    }
+
+    /// The word of the claims at a manager.
+    pub fn claim_at(&self, m: u32) -> usize
+        requires sized { Sized self.now }
+        requires manager { m < managers self.now }
+        ensures { result ≡ claim_at self.now m }
+    {
+        self.root() + 1 + m as usize
+    }
+
+    /// The word that tells whether somebody collects the letters to a manager.
+    pub fn coll_at(&self, n: u32) -> usize
+        requires sized { Sized self.now }
+        requires manager { n < managers self.now }
+        ensures { result ≡ coll_at self.now n }
+    {
+        self.root() + 1 + self.managers() + n as usize
+    }
+
+    /// The word of the letters that were issued from one manager to another.
+    pub fn issued_at(&self, m: u32, n: u32) -> usize
+        requires sized { Sized self.now }
+        requires sender { m < managers self.now }
+        requires recipient { n < managers self.now }
+        ensures { result ≡ issued_at self.now m n }
+    {
+        let managers = self.managers();
+        self.root() + 1 + managers + managers + (m as usize * managers + n as usize)
+    }
+
+    /// The word on which a hand does something.
+    pub fn place(&self, deed: Deed) -> usize
+        requires sized { Sized self.now }
+        requires within { Within self.now deed }
+        ensures { result ≡ place self.now deed }
+    {
+        match deed {
+            Deed::Claim { m } => self.claim_at(m),
+            Deed::Raise { m, .. } | Deed::Done { m, .. } | Deed::Ack { m, .. } => m as usize,
+            Deed::Post { m, to, .. } | Deed::Look { m, to } => self.issued_at(m, to),
+            Deed::Collect { to } => self.coll_at(to),
+            Deed::Climb { node } => self.parent(node) as usize,
+        }
+    }
+
+    /// Whether the managers and nodes of a deed are those of the round.
+    pub fn in_range(&self, deed: Deed) -> bool
+        requires { Sized self.now }
+        ensures { result ≡ in_range self.now deed }
+    {
+        let managers = self.managers();
+        match deed {
+            Deed::Claim { m } | Deed::Raise { m, .. } | Deed::Done { m, .. } => {
+                (m as usize) < managers
+            }
+            Deed::Post { m, to, .. } | Deed::Look { m, to } | Deed::Ack { m, to, .. } => {
+                (m as usize) < managers && (to as usize) < managers
+            }
+            Deed::Collect { to } => (to as usize) < managers,
+            Deed::Climb { node } => node as usize <= self.root(),
+        }
+    }
+}

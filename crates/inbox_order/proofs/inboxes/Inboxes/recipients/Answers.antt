@@ -1,4 +1,3 @@
-use Rattle.std.proofs.Common.{length}
 use Rattle.inbox_order.proofs.Finding.{has_letter, ids_ascend, is_recipient}
 use Rattle.inbox_order.proofs.inboxes.Inboxes.recipients.Goals as goal
 

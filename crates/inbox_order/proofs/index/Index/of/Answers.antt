@@ -1,7 +1,5 @@
-use Rattle.std.proofs.Common.{◌≡◌, ◌∙◌, ℕ, List, ap, false, rules, sym, true}
-use Rattle.sim_base.specs.declared.ids.ActorId.{ActorId}
-use Rattle.inbox_order.specs.Index.{is_last}
-use Rattle.inbox_order.proofs.Indexing.{index_known, index_new, index_none}
+use Rattle.std.proofs.Common.{◌∙◌, rules, sym}
+use Rattle.inbox_order.proofs.Indexing.{index_known, index_new}
 use Rattle.inbox_order.proofs.index.Index.of.Goals as goal
 use Rattle.inbox_order.proofs.index.Index.of.Goals.{else-not-ends_with, then-not-ends_with+in_ok-push+in_ok-push-2}
 

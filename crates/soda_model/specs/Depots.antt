@@ -1,5 +1,5 @@
 -- What a depot does.
-use Rattle.std.specs.Prelude.{ℕ, ◌==◌, ℤ, pos, ◌+ℤ◌, Bool, false, ◌&&◌, if◌then◌else◌, [], ◌∷◌, replicate}
+use Rattle.std.specs.Prelude.{◌==◌, pos, ◌+ℤ◌, Bool, false, ◌&&◌, if◌then◌else◌, [], ◌∷◌, replicate}
 use Rattle.std.specs.Int.{w64, saturate_signed}
 use Rattle.std.specs.List.{fold, list_any}
 use Rattle.actor_trait.specs.Seen.{Seen}

@@ -1,5 +1,5 @@
 -- What customers, machines and refills write to one another.
-use Rattle.std.specs.Prelude.{ℕ, ◌==◌, ℤ, pos, Bool, ◌&&◌}
+use Rattle.std.specs.Prelude.{ℕ, ◌==◌, ℤ, pos, Bool}
 use Rattle.sim_base.specs.declared.ids.ActorId.{ActorId}
 use Rattle.actor_trait.specs.declared.letter.Letter.{Letter}
 use Rattle.actor_trait.specs.declared.letter.Parcel.{Parcel}

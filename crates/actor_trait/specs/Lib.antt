@@ -1,7 +1,11 @@
+pub mod BallFields
+pub mod Balls
 pub mod ClockFields
 pub mod Clocks
 pub mod ContextDraws
 pub mod Faults
+pub mod FuseFields
+pub mod Fuses
 pub mod InboxOrder
 pub mod Meaning
 pub mod Seen

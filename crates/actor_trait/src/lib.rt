@@ -3,19 +3,25 @@
 #![tactic(auto)]
 
 mod actor;
+mod ball;
+mod bearing;
 mod clock;
 mod context;
 mod event;
 mod faults;
+mod fuse;
 mod letter;
 mod outcome;
 #[cfg(test)]
 mod tests;
 
 pub use actor::Actor;
+pub use ball::Ball;
+pub use bearing::Bearing;
 pub use clock::Clock;
 pub use context::Context;
 pub use event::Event;
 pub use faults::{FaultCode, fault_of};
+pub use fuse::Fuse;
 pub use letter::{Letter, Parcel, Payload};
 pub use outcome::{Outcome, Sample};

@@ -11,10 +11,13 @@ fn outcomes_cross_threads<A: Send + Sync>() {
 #[test]
 fn data_crosses_threads() {
     outcomes_cross_threads::<Clock>();
+    crosses_threads::<Ball>();
+    crosses_threads::<Bearing<Clock, Ball>>();
     crosses_threads::<Clock>();
     crosses_threads::<Context>();
     crosses_threads::<Event<'static>>();
     crosses_threads::<FaultCode>();
+    crosses_threads::<Fuse>();
     crosses_threads::<Letter>();
     crosses_threads::<Parcel>();
     crosses_threads::<Payload>();
@@ -75,6 +78,76 @@ fn a_clock_has_its_names(rt: HostRuntime) {
     assert_eq!(rt; clock().kind(), "clock");
     assert_eq!(rt; clock().probes(), 1);
     assert_eq!(rt; clock().probe(0), "beats");
+}
+
+fn letter(from: u32, code: u32, a: i64) -> Letter {
+    Letter {
+        to: ActorId(1),
+        from: ActorId(from),
+        serial: 0,
+        payload: Payload { code, a, b: 0 },
+    }
+}
+
+fn parcel(to: u32, a: i64) -> Parcel {
+    Parcel {
+        to: ActorId(to),
+        payload: Payload { code: 1, a, b: 0 },
+    }
+}
+
+#[test]
+fn a_ball_is_served_and_returned(rt: HostRuntime) -> Result<(), Fail> {
+    let ball = Ball {
+        peer: ActorId(2),
+        at: 3,
+        hits: 4,
+        received: i64::MAX - 1,
+    };
+    let inbox = [letter(3, 1, 2), letter(4, 1, 1), letter(3, 2, 9)];
+    let event = Event {
+        first: true,
+        spontaneous: true,
+        inbox: &inbox,
+    };
+    let outcome = ball.act(rt.alloc(), &context(3, 0), &event)?;
+    assert_eq!(rt; outcome.ticks.as_slice(), [3].as_slice());
+    assert_eq!(rt;
+        outcome.sends.as_slice(),
+        [parcel(2, 4), parcel(3, 1)].as_slice()
+    );
+    assert_eq!(rt;
+        outcome.samples.as_slice(),
+        [Sample {
+            probe: 0,
+            value: i64::MAX
+        }]
+        .as_slice()
+    );
+    assert_eq!(rt; ball.kind(), "ball");
+    assert_eq!(rt; ball.probe(0), "hits");
+    Ok(())
+}
+
+#[test]
+fn a_fuse_burns_at_its_tick(rt: HostRuntime) -> Result<(), Fail> {
+    let alloc = rt.alloc();
+    let first = Event {
+        first: true,
+        spontaneous: false,
+        inbox: &[],
+    };
+    let fuse = Fuse { at: 0, code: 12 };
+    let outcome = fuse.act(alloc, &context(0, 0), &first)?;
+    assert_eq!(rt; outcome.fault.map(|code| code.code()), Some(12));
+    assert!(rt; outcome.ticks.is_empty());
+    let fuse = Fuse { at: 3, code: 12 };
+    let outcome = fuse.act(alloc, &context(0, 0), &first)?;
+    assert!(rt; outcome.fault.is_none());
+    assert_eq!(rt; outcome.ticks.as_slice(), [3].as_slice());
+    assert_eq!(rt; fuse.kind(), "fuse");
+    assert_eq!(rt; fuse.probes(), 0);
+    Ok(())
 }
 
 #[derive(Clone, Copy)]

@@ -1,0 +1,12 @@
+pub mod Buyers
+pub mod CustomerFields
+pub mod Customers
+pub mod DepotFields
+pub mod Depots
+pub mod Letters
+pub mod MachineFields
+pub mod Machines
+pub mod RandomCustomerFields
+pub mod RandomCustomers
+pub mod RefillFields
+pub mod Refills

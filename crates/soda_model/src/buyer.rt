@@ -1,0 +1,170 @@
+//! What every customer does, however long it waits.
+
+ghost use Rattle.std.specs.Prelude.{◌≡◌, ℕ, [], ◌∷◌, if◌then◌else◌, IfOk};
+ghost use Rattle.std.specs.List.{fold, list_any};
+ghost use Rattle.actor_trait.specs.Seen.{seen};
+ghost use Rattle.actor_trait.specs.declared.context.Context.{Context};
+ghost use Rattle.soda_model.specs.Buyers.{answered, asked, buyer_acts, buyer_samples, buys, is_answer, paid};
+ghost use Rattle.soda_model.specs.Letters.{offer_to};
+
+use crate::letters::{CAN, OFFER, REFUND, send};
+use actor_trait::{Context, Event, Letter, Outcome, Parcel, Sample};
+use sim_base::{ActorId, Items, Memory};
+use std::alloc::Global;
+
+/// How long a customer waits until it buys again.
+pub(crate) trait Wait {
+    /// What the wait is.
+    ghost wait_of: { Self → Context → ℕ };
+
+    /// The wait at an event, in ticks.
+    fn wait(&self, context: &Context) -> u64
+        ensures { result ≡ wait_of self.now context.entry.now };
+}
+
+/// A customer without its wait.
+#[derive(Clone, Copy)]
+pub(crate) struct Buyer {
+    pub(crate) machine: ActorId,
+    pub(crate) offer: i64,
+    pub(crate) money: i64,
+    pub(crate) cans: i64,
+}
+
+impl Buyer {
+    fn buys(&self, event: &Event<'_>) -> bool
+        ensures { result ≡ buys self.now (seen event.now.first event.now.spontaneous event.now.inbox.now) }
+    {
+        event.spontaneous && self.money >= self.offer
+    }
+
+    /// Its offer to its machine, if it buys.
+    fn offers(&self, alloc: Global, buys: bool) -> Result<Items<Parcel>, Memory>
+        ensures { IfOk result (λ sends. sends ≡ (if buys then offer_to self.now.machine self.now.offer ∷ [] else [])) }
+    {
+        let mut sends = Items::new(alloc);
+        if buys {
+            send(&mut sends, self.machine, OFFER, self.offer, 0)?;
+        }
+        Ok(sends)
+    }
+
+    /// What is left of its money, if it buys.
+    fn after_offer(self, buys: bool) -> Buyer
+        ensures { result ≡ (if buys then paid self else self) }
+    {
+        if buys {
+            Buyer {
+                money: self.money.saturating_sub(self.offer),
+                ..self
+            }
+        } else {
+            self
+        }
+    }
+
+    /// Takes in a can with its change, or a refund; any other letter is ignored.
+    fn answer(&mut self, letter: &Letter)
+        ensures { self.new ≡ answered self.old letter.now }
+    {
+        if !is_answer(self.machine, letter) {
+            return;
+        }
+        if letter.payload.code == CAN {
+            self.cans = self.cans.saturating_add(1);
+        }
+        self.money = self.money.saturating_add(letter.payload.a);
+    }
+
+    /// Its cans and its money.
+    fn samples(&self, alloc: Global) -> Result<Items<Sample>, Memory>
+        ensures { IfOk result (λ samples. samples ≡ buyer_samples self.now) }
+    {
+        let cans = Sample {
+            probe: 0,
+            value: self.cans,
+        };
+        let money = Sample {
+            probe: 1,
+            value: self.money,
+        };
+        Ok(Items::of(vec![in alloc; cans, money]?))
+    }
+}
+
+/// Whether a letter is a can or a refund from this machine.
+fn is_answer(machine: ActorId, letter: &Letter) -> bool
+    ensures { result ≡ is_answer machine letter.now }
+{
+    let code = letter.payload.code;
+    letter.from.0 == machine.0 && (code == CAN || code == REFUND)
+}
+
+fn any_answer(machine: ActorId, inbox: &[Letter]) -> bool
+    ensures { result ≡ list_any (is_answer machine) inbox.now }
+{
+    inbox.iter().any(|letter| is_answer(machine, letter))
+}
+
+fn answer_all(buyer: Buyer, inbox: &[Letter]) -> Buyer
+    ensures { result ≡ fold answered buyer inbox.now }
+{
+    let mut buyer = buyer;
+    for letter in inbox {
+        buyer.answer(letter);
+    }
+    buyer
+}
+
+/// Asks the tick after the wait, once for each of the two causes.
+fn ask<W: Wait>(
+    alloc: Global,
+    waiting: &W,
+    context: &Context,
+    first: bool,
+    buys: bool,
+) -> Result<Items<u64>, Memory>
+    ensures { IfOk result (λ ticks. ticks ≡ asked context.entry.now (W.wait_of waiting.now context.entry.now) first buys) }
+{
+    let mut ticks = Items::new(alloc);
+    if first || buys {
+        let next = context.now.tick.saturating_add(waiting.wait(context));
+        if first {
+            ticks.push(next).map_err(|_| Memory)?;
+        }
+        if buys {
+            ticks.push(next).map_err(|_| Memory)?;
+        }
+    }
+    Ok(ticks)
+}
+
+/// What comes of an event of a customer that waits in this way.
+pub(crate) fn shop<W: Wait>(
+    alloc: Global,
+    buyer: Buyer,
+    waiting: &W,
+    context: &Context,
+    event: &Event<'_>,
+) -> Result<Outcome<Buyer>, Memory>
+    ensures { IfOk result (λ outcome. outcome ≡ buyer_acts buyer (W.wait_of waiting.now context.entry.now) context.entry.now (seen event.now.first event.now.spontaneous event.now.inbox.now)) }
+{
+    let buys = buyer.buys(event);
+    let ticks = ask(alloc, waiting, context, event.first, buys)?;
+    let sends = buyer.offers(alloc, buys)?;
+    let after = answer_all(buyer.after_offer(buys), event.inbox);
+    let samples = if any_answer(buyer.machine, event.inbox) {
+        after.samples(alloc)?
+    } else {
+        Items::new(alloc)
+    };
+    Ok(Outcome {
+        state: after,
+        sends,
+        ticks,
+        births: Items::new(alloc),
+        samples,
+        retire: false,
+        fault: None,
+    })
+}

@@ -75,12 +75,16 @@ impl<T> Items<T> {
         self.items.get(at)
     }
 
-    /// Appends an item. Err is want of memory: it gives the item back and changes nothing.
+    /// Appends an item. The first takes room for one alone, since most lists of an event have no
+    /// second. Err is want of memory: it gives the item back and changes nothing.
     pub fn push(&mut self, item: T) -> Result<(), T>
         ensures ok { OnOk result (self.new ≡ self.old ++ item ∷ []) }
         ensures err { OnErr result (self.new ≡ self.old) }
         ensures back { IfErr result (λ refused. refused ≡ item) }
     {
+        if self.items.is_empty() && self.items.reserve_exact(1).is_err() {
+            return Err(item);
+        }
         match self.items.push(item) {
             Ok(()) => Ok(()),
             Err(AllocFailed { value }) => Err(value),

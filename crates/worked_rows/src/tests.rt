@@ -3,7 +3,9 @@ ghost use Rattle.std.specs.Prelude.{◌<◌};
 use sim_base::{BytesIn, BytesOut, Items, NullOut, OpenGate, Source, Status, SteadyIn, Taken};
 use sim_top::{Answer, Refusal, Verdict, WordsRefusal, simulate};
 use std::alloc::Global;
+use std::process::Abort;
 use std::test::Fail;
+use std::thread::Threads;
 
 fn crosses_threads<T: Send + Sync>() {}
 
@@ -108,7 +110,11 @@ fn rows_give_their_text(rt: HostRuntime) -> Result<(), Fail> {
 }
 
 /// What is no scenario is refused with status 4 and this line, and nothing is written.
-fn refuses(rt: &HostRuntime, scenario: &str, line: &str) -> Result<(), Fail> {
+fn refuses<R: Abort + AllocGlobal + Sync + Threads>(
+    rt: &R,
+    scenario: &str,
+    line: &str,
+) -> Result<(), Fail> {
     let alloc = rt.alloc();
     let words = command(alloc, &["run"])?;
     let mut input = SteadyIn::new(items(alloc, scenario)?, 4096);

@@ -1,0 +1,2 @@
+pub mod ShopLaws
+pub mod Shops

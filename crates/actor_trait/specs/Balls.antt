@@ -22,9 +22,13 @@ is_ball l = l.payload.code == 1
 abbrev pub caught : BallFields → Letter → BallFields
 caught s l = if is_ball l then record s { received = saturate_signed w64 (s.received +ℤ pos 1) } else s
 
--- while hits are left, it goes back to its sender with one less
+-- a ball with hits left when one is taken away
+abbrev pub goes_back : Letter → Bool
+goes_back l = is_ball l && int_lt (pos 1) l.payload.a
+
+-- it goes back to its sender with one hit less
 abbrev pub returned : Letter → List Parcel
-returned l = if is_ball l && int_lt (pos 1) l.payload.a then ball_to l.from (l.payload.a -ℤ pos 1) ∷ [] else []
+returned l = if goes_back l then ball_to l.from (l.payload.a -ℤ pos 1) ∷ [] else []
 
 abbrev pub ball_acts : BallFields → Context → Seen → Outcome BallFields
 ball_acts s c e =

@@ -1,6 +1,6 @@
 ghost use Rattle.std.specs.Prelude.{◌≡◌, ◌++◌, OnOk, refl};
-ghost use Rattle.std.specs.List.{list_any};
-ghost use Rattle.actor_trait.specs.Balls.{ball_to, is_ball};
+ghost use Rattle.std.specs.List.{count_by, list_any};
+ghost use Rattle.actor_trait.specs.Balls.{ball_to, goes_back, is_ball};
 
 use crate::{Actor, Context, Event, Letter, Outcome, Parcel, Payload, Sample};
 use sim_base::{ActorId, Items, Memory};
@@ -46,13 +46,11 @@ impl Ball {
         ensures state { OnOk result (self.new ≡ caught self.old letter.now) }
         ensures sends { OnOk result (sends.new ≡ sends.old ++ returned letter.now) }
     {
-        let Payload { code, a, .. } = letter.payload;
-        if code != BALL {
-            return Ok(());
+        if letter.payload.code == BALL {
+            self.received = self.received.saturating_add(1);
         }
-        self.received = self.received.saturating_add(1);
-        if a > 1 {
-            let back = ball_to(letter.from, a - 1);
+        if goes_back(letter) {
+            let back = ball_to(letter.from, letter.payload.a - 1);
             sends.push(back).map_err(|_| Memory)?;
         }
         Ok(())
@@ -83,6 +81,20 @@ fn ball_to(to: ActorId, hits: i64) -> Parcel
     }
 }
 
+/// Whether a letter is a ball with hits left when one is taken away.
+fn goes_back(letter: &Letter) -> bool
+    ensures { result ≡ goes_back letter.now }
+{
+    letter.payload.code == BALL && letter.payload.a > 1
+}
+
+/// How many balls go back.
+fn count_back(inbox: &[Letter]) -> usize
+    ensures { result ≡ count_by goes_back inbox.now }
+{
+    inbox.iter().filter(|letter| goes_back(letter)).count()
+}
+
 fn has_ball(inbox: &[Letter]) -> bool
     ensures { result ≡ list_any is_ball inbox.now }
 {
@@ -100,7 +112,8 @@ impl Actor for Ball {
         _context: &Context,
         event: &Event<'_>,
     ) -> Result<Outcome<Self>, Memory> {
-        let mut sends = Items::new(alloc);
+        let sent = count_back(event.inbox).saturating_add(usize::from(event.spontaneous));
+        let mut sends = Items::with_room(alloc, sent)?;
         let mut ticks = Items::new(alloc);
         let mut samples = Items::new(alloc);
         let mut state = *self;

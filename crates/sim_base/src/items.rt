@@ -1,6 +1,7 @@
-ghost use Rattle.std.specs.Prelude.{◌≡◌, [], ◌∷◌, ◌++◌, ◌≤◌, ◌↔◌, length, slice_get, IsNone, IsTrue, IfErr, OnOk, OnErr};
+ghost use Rattle.std.specs.Prelude.{◌≡◌, [], ◌∷◌, ◌++◌, ◌≤◌, ◌↔◌, length, slice_get, IsNone, IsTrue, IfErr, IfOk, OnOk, OnErr};
 ghost use Rattle.std.specs.Option.{option_copied};
 
+use crate::Memory;
 use std::alloc::{AllocFailed, Global};
 use std::marker::Model;
 
@@ -29,6 +30,16 @@ impl<T> Items<T> {
         Items {
             items: Vec::new(alloc),
         }
+    }
+
+    /// The empty list, with room for so many items; for none it takes no memory. Err is want of
+    /// memory.
+    pub fn with_room(alloc: Global, room: usize) -> Result<Items<T>, Memory>
+        ensures { IfOk result (λ items. items ≡ []) }
+    {
+        Ok(Items {
+            items: Vec::with_capacity(alloc, room)?,
+        })
     }
 
     /// The list of a `Vec`. It takes no memory.
@@ -75,8 +86,8 @@ impl<T> Items<T> {
         self.items.get(at)
     }
 
-    /// Appends an item. The first takes room for one alone, since most lists of an event have no
-    /// second. Err is want of memory: it gives the item back and changes nothing.
+    /// Appends an item. Where there is no room, the first takes room for one alone, since most lists
+    /// of an event have no second. Err is want of memory: it gives the item back and changes nothing.
     pub fn push(&mut self, item: T) -> Result<(), T>
         ensures ok { OnOk result (self.new ≡ self.old ++ item ∷ []) }
         ensures err { OnErr result (self.new ≡ self.old) }

@@ -78,6 +78,19 @@ fn lists_grow_and_are_read(rt: HostRuntime) -> Result<(), Fail> {
 }
 
 #[test]
+fn a_list_of_known_length_grows_once(rt: HostRuntime) -> Result<(), Fail> {
+    let mut items = Items::with_room(rt.alloc(), 2)?;
+    assert!(rt; items.is_empty());
+    items.push(7u64).map_err(|_| Memory)?;
+    items.push(9u64).map_err(|_| Memory)?;
+    assert_eq!(rt; items.as_slice(), [7, 9].as_slice());
+    assert_eq!(rt; items.into_vec().capacity(), 2);
+    let none: Items<u64> = Items::with_room(rt.alloc(), 0)?;
+    assert_eq!(rt; none.into_vec().capacity(), 0);
+    Ok(())
+}
+
+#[test]
 fn all_of_a_source_is_read(rt: HostRuntime) -> Result<(), Fail> {
     let alloc = rt.alloc();
     for (text, cut, limit, want) in [

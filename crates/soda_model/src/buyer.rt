@@ -126,7 +126,7 @@ fn ask<W: Wait>(
 ) -> Result<Items<u64>, Memory>
     ensures { IfOk result (λ ticks. ticks ≡ asked context.entry.now (W.wait_of waiting.now context.entry.now) first buys) }
 {
-    let mut ticks = Items::new(alloc);
+    let mut ticks = Items::with_room(alloc, usize::from(first) + usize::from(buys))?;
     if first || buys {
         let next = context.now.tick.saturating_add(waiting.wait(context));
         if first {

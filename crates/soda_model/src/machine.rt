@@ -1,5 +1,6 @@
 ghost use Rattle.std.specs.Prelude.{◌≡◌, IfOk, OnOk, refl};
-ghost use Rattle.std.specs.List.{fold, list_any};
+ghost use Rattle.std.specs.List.{count_by, fold, list_any};
+ghost use Rattle.soda_model.specs.Letters.{has_code};
 ghost use Rattle.soda_model.specs.Machines.{is_asked, served};
 
 use crate::letters::{CAN, FILL, OFFER, REFUND, SOLD_OUT, TOO_LITTLE, send};
@@ -128,6 +129,16 @@ fn serve_all(trade: &mut Trade, inbox: &[Letter]) -> Result<(), Memory>
     Ok(())
 }
 
+/// How many offers there are: a machine answers each with one letter, and nothing else.
+fn offers(inbox: &[Letter]) -> usize
+    ensures { result ≡ count_by (has_code 10) inbox.now }
+{
+    inbox
+        .iter()
+        .filter(|letter| letter.payload.code == OFFER)
+        .count()
+}
+
 fn is_asked(inbox: &[Letter]) -> bool
     ensures { result ≡ list_any is_asked inbox.now }
 {
@@ -151,7 +162,7 @@ impl Actor for Machine {
         }
         let mut trade = Trade {
             machine: *self,
-            sends: Items::new(alloc),
+            sends: Items::with_room(alloc, offers(event.inbox))?,
         };
         serve_all(&mut trade, event.inbox)?;
         let Trade { machine, sends } = trade;

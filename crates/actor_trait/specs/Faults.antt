@@ -1,5 +1,5 @@
 -- The faults that an outcome shows.
-use Rattle.std.specs.Prelude.{ℕ, Bool, ◌&&◌, ◌||◌, nat_le, nat_lt, if◌then◌else◌, List, length, Option, Some, None}
+use Rattle.std.specs.Prelude.{ℕ, Bool, false, ◌&&◌, ◌||◌, nat_le, nat_lt, if◌then◌else◌, List, length, Option, Some, None}
 use Rattle.std.specs.List.{list_any}
 use Rattle.std.specs.Option.{option_or}
 use Rattle.sim_base.specs.declared.moment.Moment.{Moment}
@@ -29,8 +29,12 @@ samples_unknown probes samples = list_any (λ s. nat_le probes s.probe) samples
 abbrev pub when : Bool → ℕ → Option ℕ
 when shown code = if shown then Some code else None
 
--- the model's own, then 900, 901 and 903
+-- the model's own, then 900, 901, 902 where a birth is past the last number, and 903
+abbrev pub fault_among : {A : Type 0} → Meaning A → Outcome A → Moment → Bool → Option ℕ
+fault_among m o now past =
+    option_or o.fault (option_or (when (asks_past now.tick o.ticks) 900) (option_or (when (gives_too_many o) 901)
+    (option_or (when past 902) (when (samples_unknown (length (m.probes o.state)) o.samples) 903))))
+
+-- what can be seen from one outcome alone
 abbrev pub fault_shown : {A : Type 0} → Meaning A → Outcome A → Moment → Option ℕ
-fault_shown m o now =
-    option_or o.fault (option_or (when (asks_past now.tick o.ticks) 900)
-    (option_or (when (gives_too_many o) 901) (when (samples_unknown (length (m.probes o.state)) o.samples) 903)))
+fault_shown m o now = fault_among m o now false

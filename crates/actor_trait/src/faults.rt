@@ -1,6 +1,6 @@
 ghost use Rattle.std.specs.Prelude.{◌≡◌, ◌≤◌, nat_le, length};
 ghost use Rattle.std.specs.List.{list_any};
-ghost use Rattle.actor_trait.specs.Faults.{asks_past, code_of, fault_shown, gives_too_many, samples_unknown};
+ghost use Rattle.actor_trait.specs.Faults.{asks_past, code_of, fault_among, fault_shown, gives_too_many, samples_unknown};
 
 use crate::{Actor, Outcome, Sample};
 use sim_base::Moment;
@@ -53,6 +53,9 @@ const NOT_LATER: u32 = 900;
 /// More than 1,024 letters, ticks, births or samples came of one event.
 const TOO_MANY: u32 = 901;
 
+/// A birth would have a number past the last that an actor may have.
+const PAST_LAST_ACTOR: u32 = 902;
+
 /// A probe was sampled that the kind doesn't declare.
 const UNKNOWN_PROBE: u32 = 903;
 
@@ -77,10 +80,10 @@ fn too_many<A>(outcome: &Outcome<A>) -> bool
         || MOST < outcome.samples.len()
 }
 
-/// The fault that an outcome shows at this moment: the first of the model's own, 900, 901 and 903;
-/// None exactly where it shows none of them. Fault 902 can't be seen from one outcome alone.
-pub fn fault_of<A: Actor>(outcome: &Outcome<A>, now: Moment) -> Option<u32>
-    ensures { result ≡ fault_shown A.meaning outcome.now now }
+/// The fault that an outcome shows at this moment, where `past` tells whether one of its births would
+/// have a number past the last: the first of the model's own, 900, 901, 902 and 903.
+pub fn fault_among<A: Actor>(outcome: &Outcome<A>, now: Moment, past: bool) -> Option<u32>
+    ensures { result ≡ fault_among A.meaning outcome.now now past }
 {
     if let Some(code) = &outcome.fault {
         return Some(code.code());
@@ -89,9 +92,19 @@ pub fn fault_of<A: Actor>(outcome: &Outcome<A>, now: Moment) -> Option<u32>
         Some(NOT_LATER)
     } else if too_many(outcome) {
         Some(TOO_MANY)
+    } else if past {
+        Some(PAST_LAST_ACTOR)
     } else if any_unknown(outcome.samples.as_slice(), outcome.state.probes()) {
         Some(UNKNOWN_PROBE)
     } else {
         None
     }
+}
+
+/// The fault that an outcome shows at this moment by itself: the first of the model's own, 900, 901 and
+/// 903; None exactly where it shows none of them. Fault 902 can't be seen from one outcome alone.
+pub fn fault_of<A: Actor>(outcome: &Outcome<A>, now: Moment) -> Option<u32>
+    ensures { result ≡ fault_shown A.meaning outcome.now now }
+{
+    fault_among(outcome, now, false)
 }

@@ -21,7 +21,7 @@ pub use bearing::Bearing;
 pub use clock::Clock;
 pub use context::Context;
 pub use event::Event;
-pub use faults::{FaultCode, fault_of};
+pub use faults::{FaultCode, fault_among, fault_of};
 pub use fuse::Fuse;
 pub use letter::{Letter, Parcel, Payload};
 pub use outcome::{Outcome, Sample};

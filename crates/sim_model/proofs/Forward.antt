@@ -1,5 +1,5 @@
 -- Each moment of a run is later than the one before, so a run ends.
-use Rattle.std.proofs.Common.{◌≡◌, ℕ, zero, suc, ◌+◌, ◌*◌, ◌-◌, ◌<◌, ◌≤◌, Bool, true, false, not, ◌&&◌, cond, nat_eq, nat_lt, List, [], ◌∷◌, ◌++◌, Option, Some, None, length, zero-add, suc-add, arith, refl, ◌∙◌, ap, subst}
+use Rattle.std.proofs.Common.{◌≡◌, ℕ, zero, suc, ◌+◌, ◌*◌, ◌-◌, ◌<◌, ◌≤◌, Bool, true, false, not, ◌&&◌, cond, nat_eq, nat_lt, List, [], ◌∷◌, ◌++◌, Option, Some, None, length, map, zero-add, suc-add, arith, length-append, refl, ◌∙◌, ap, subst}
 use Rattle.std.specs.List.{fold, flat_map}
 use Rattle.std.proofs.lemmas.Bool.Decides.{nat_tests}
 use Rattle.std.proofs.lemmas.Grind.{common_steps}
@@ -10,11 +10,13 @@ use Rattle.sim_base.specs.declared.moment.Moment.{Moment}
 use Rattle.sim_base.specs.declared.moment.Row.{Row}
 use Rattle.actor_trait.specs.Meaning.{Meaning}
 use Rattle.sim_model.specs.Agendas.{Rises, without}
-use Rattle.sim_model.specs.Moment.{close, enter, fault_of_moment, is_spontaneous, next_for, next_tick, put_state, reports, rows_of, scheduled, what_comes_next}
+use Rattle.sim_model.specs.Moment.{ask_of, close, enter, fault_of_moment, is_spontaneous, next_for, is_among, next_id, next_tick, put_state, reports, retired, rows_of, scheduled, what_comes_next}
+use Rattle.sim_model.specs.Births.{births_of_moment}
 use Rattle.sim_model.specs.Run.{IsRun, RunEnds, follow, goes_on, judge, most_moments, results_of, run_after, run_of, start, step}
 use Rattle.sim_model.specs.SetupParts.{SetupParts}
 use Rattle.sim_model.specs.Setups.{IsSetup}
 use Rattle.sim_model.specs.declared.agenda.Due.{Due}
+use Rattle.sim_model.specs.declared.births.Newborn.{Newborn}
 use Rattle.sim_model.specs.declared.next.Next.{Next}
 use Rattle.sim_model.specs.declared.next.Next.TheVariants.{Enters, Ends}
 use Rattle.sim_model.specs.declared.report.Fault.{Fault}
@@ -24,8 +26,9 @@ use Rattle.sim_model.specs.declared.run.Progress.{Progress}
 use Rattle.sim_model.specs.declared.run.Progress.TheVariants.{Going, Over}
 use Rattle.sim_model.specs.declared.run.Underway.{Underway}
 use Rattle.sim_model.specs.declared.world.World.{World}
-use Rattle.sim_model.proofs.Calm.{asks_rise}
-use Rattle.sim_model.proofs.Rising.{rises_from, without_rises}
+use Rattle.sim_model.proofs.Calm.{asks_rise, numbers_fit}
+use Rattle.sim_model.proofs.Numbers.{births-length}
+use Rattle.sim_model.proofs.Rising.{filter_rises, rises_from, without_rises}
 
 -- the place of a moment among all that a run may enter
 abbrev pub rank : {A : Type 0} → SetupParts A → Moment → ℕ
@@ -100,7 +103,7 @@ pub record Sound {A : Type 0} (s : SetupParts A) (u : Underway A) : Type 0 where
   pub tick : u.at.tick ≤ s.last_tick
   pub diasca : u.at.diasca < s.diasca_limit
   pub agenda : Rises (floor u.at) u.world.agenda
-  pub count : length u.world.states ≡ length s.actors
+  pub count : length u.world.states ≤ s.max_actors
 
 -- no tick of the agenda is below that of the moment
 pub agenda_rises : {A : Type 0} (s : SetupParts A) (u : Underway A) → Sound s u → Rises u.at.tick u.world.agenda
@@ -134,34 +137,47 @@ follow_going at w rows (Ends ending) u e = cc
 pub record StepsOn {A : Type 0} (s : SetupParts A) (at : Moment) (closed : World A) (next : Underway A) : Type 0 where
   pub later : Later s at closed.agenda next.at
   pub world : closed ≡ next.world
+  pub count : length closed.states ≤ s.max_actors
+
+-- nobody is born past the last number
+closed_count : {A : Type 0} (m : Meaning A) (last : ℕ) (at : Moment) (w : World A) (rs : List (Report A)) → fault_of_moment m last (next_id w) at rs ≡ None
+    → length w.states ≤ last → length (close m w rs).states ≤ last
+closed_count {A} m last at w rs none le =
+    let born : List (Newborn A) = births_of_moment m (next_id w) rs in
+    let state_of_birth : Newborn A → Option A = λ b. Some b.state in
+    let all : length (close m w rs).states ≡ length w.states + length born =
+    length-append (fold put_state w.states rs) (map state_of_birth born)
+    ∙ ap (λ n. n + length (map state_of_birth born)) (put_states-length rs w.states) ∙ ap (λ n. length w.states + n) (length-map born state_of_birth) in
+    omega (arith, all, births-length m rs (next_id w), numbers_fit m last (next_id w) at rs none (omega (arith, le)))
 
 judge_going : {A : Type 0} (m : Meaning A) (s : SetupParts A) (at : Moment) (w : World A) (rows : List Row) (rs : List (Report A)) (o : Option Fault) (next : Underway A)
-    → at.tick ≤ s.last_tick → at.diasca < s.diasca_limit → fault_of_moment m at rs ≡ o → Rises (suc at.tick) w.agenda
-    → judge s at w rows rs o ≡ Going next → StepsOn s at (close w rs) next
-judge_going m s at w rows rs (Some f) next fits low none h e = cc
-judge_going m s at w rows rs None next fits low none h e =
-    let goes = follow_going at (close w rs) (rows ++ flat_map (rows_of at) rs) (what_comes_next s at (close w rs)) next e in
+    → at.tick ≤ s.last_tick → at.diasca < s.diasca_limit → length w.states ≤ s.max_actors → fault_of_moment m s.max_actors (next_id w) at rs ≡ o → Rises (suc at.tick) w.agenda
+    → judge m s at w rows rs o ≡ Going next → StepsOn s at (close m w rs) next
+judge_going m s at w rows rs (Some f) next fits low count none h e = cc
+judge_going m s at w rows rs None next fits low count none h e =
+    let goes = follow_going at (close m w rs) (rows ++ flat_map (rows_of at) rs) (what_comes_next s at (close m w rs)) next e in
     record {
-      later = next_for_later s at next.at (close w rs) (scheduled (close w rs) (record { tick = at.tick; diasca = at.diasca + 1 })) fits low (asks_rise m at rs w.agenda none h) goes.0;
+      later = next_for_later s at next.at (close m w rs) (scheduled (close m w rs) (record { tick = at.tick; diasca = at.diasca + 1 })) fits low
+          (filter_rises (λ d. not (is_among (retired rs) d.actor)) (suc at.tick) (fold ask_of w.agenda rs) (asks_rise m s.max_actors (next_id w) at rs w.agenda none h)) goes.0;
       world = goes.1;
+      count = closed_count m s.max_actors at w rs none count;
     }
 
 pub step_going : {A : Type 0} (m : Meaning A) (s : SetupParts A) (u next : Underway A) → Sound s u → step m s u ≡ Going next
-    → StepsOn s u.at (close (enter u.world u.at) (reports m s.seed u.at (enter u.world u.at))) next
+    → StepsOn s u.at (close m (enter u.world u.at) (reports m s.seed u.at (enter u.world u.at))) next
 unfolding step
 step_going m s u next h e =
-    judge_going m s u.at (enter u.world u.at) u.rows (reports m s.seed u.at (enter u.world u.at)) _ next h.tick h.diasca refl
+    judge_going m s u.at (enter u.world u.at) u.rows (reports m s.seed u.at (enter u.world u.at)) _ next h.tick h.diasca h.count refl
     (entered_rises (is_spontaneous u.at) u.at.tick u.world.agenda h.agenda) e
 
 pub step_sound : {A : Type 0} (m : Meaning A) (s : SetupParts A) (u next : Underway A) → Sound s u → step m s u ≡ Going next → Sound s next
 step_sound m s u next h e =
     let on = step_going m s u next h e in
-    let rs = reports m s.seed u.at (enter u.world u.at) in
     record {
       tick = on.later.tick;
       diasca = on.later.diasca;
       agenda = rw (ap (λ w. w.agenda) on.world) at on.later.agenda;
-      count = rw (← on.world) (put_states-length rs u.world.states ∙ h.count);
+      count = subst (λ w. length w.states ≤ s.max_actors) on.world on.count;
     }
 
 -- ---- the whole run
@@ -186,7 +202,7 @@ pub start_reached : {A : Type 0} (m : Meaning A) (s : SetupParts A) → IsSetup 
 unfolding run_after
 start_reached m s setup = record {
   setup = setup;
-  sound = record { tick = omega arith; diasca = omega (arith, setup.some_diasca); agenda = tt; count = simp length-map };
+  sound = record { tick = omega arith; diasca = omega (arith, setup.some_diasca); agenda = tt; count = simp length-map (omega (arith, setup.actors)) };
   moments = 0;
   within = omega arith;
   there = refl;

@@ -1,4 +1,5 @@
 pub mod Agendas
+pub mod Births
 pub mod Cast
 pub mod Moment
 pub mod Run

@@ -1,19 +1,27 @@
 -- One moment of a run: it is entered, each that is scheduled acts once, the first fault ends the
 -- run, else the moment is closed, and something comes next.
-use Rattle.std.specs.Prelude.{ℕ, ◌+◌, ◌-◌, Bool, ◌&&◌, not, nat_eq, nat_lt, if◌then◌else◌, List, [], ◌∷◌, map, slice_get, slice_set, Option, Some, None}
-use Rattle.std.specs.List.{filter_map, fold}
+use Rattle.std.specs.Prelude.{ℕ, ◌+◌, ◌-◌, ◌^◌, min, Bool, true, false, ◌&&◌, ◌||◌, not, nat_eq, nat_lt, if◌then◌else◌, List, [], ◌∷◌, ◌++◌, length, map, slice_get, slice_set, Option, Some, None, is_some}
+use Rattle.std.specs.BTreeSet.{insert_key}
+use Rattle.std.specs.List.{count_by, filter, filter_map, flat_map, fold, list_any}
 use Rattle.std.specs.Option.{option_map, option_flatten, option_or}
+use Rattle.std.specs.Ordering.{nat_cmp}
+use Rattle.std.specs.declared.cmp.Ordering.{Ordering}
 use Rattle.sim_base.specs.declared.ids.ActorId.{ActorId}
 use Rattle.sim_base.specs.declared.moment.Ending.TheVariants as ending
 use Rattle.sim_base.specs.declared.moment.Moment.{Moment}
 use Rattle.sim_base.specs.declared.moment.Row.{Row}
-use Rattle.actor_trait.specs.Faults.{fault_shown}
+use Rattle.actor_trait.specs.Faults.{fault_among}
+use Rattle.actor_trait.specs.InboxOrder.{inbox_order}
 use Rattle.actor_trait.specs.Meaning.{Meaning}
 use Rattle.actor_trait.specs.Seen.{Seen, seen}
+use Rattle.actor_trait.specs.declared.letter.Letter.{Letter}
+use Rattle.actor_trait.specs.declared.letter.Parcel.{Parcel}
 use Rattle.actor_trait.specs.declared.outcome.Outcome.{Outcome}
 use Rattle.sim_model.specs.Agendas.{ask, due, without}
+use Rattle.sim_model.specs.Births.{bears_past, birth_letter, births_of_moment, member_born}
 use Rattle.sim_model.specs.SetupParts.{SetupParts}
 use Rattle.sim_model.specs.declared.agenda.Due.{Due}
+use Rattle.sim_model.specs.declared.births.Newborn.{Newborn}
 use Rattle.sim_model.specs.declared.next.Next.{Next}
 use Rattle.sim_model.specs.declared.next.Next.TheVariants.{Enters, Ends}
 use Rattle.sim_model.specs.declared.report.Fault.{Fault}
@@ -36,9 +44,24 @@ living_from n [] = []
 living_from n (None ∷ states) = living_from (n + 1) states
 living_from n (Some a ∷ states) = record { 0 = n } ∷ living_from (n + 1) states
 
--- all at the opening, those that asked for the tick at its first diasca, and nobody later
+abbrev pub actor_cmp : ActorId → ActorId → Ordering
+actor_cmp a b = nat_cmp a.0 b.0
+
+-- ascending, each once
+abbrev pub in_order_once : List ActorId → List ActorId
+in_order_once ids = fold (λ done id. insert_key actor_cmp done id) [] ids
+
+-- the newborn and all who have a letter
+abbrev pub called : List ActorId → List Letter → List ActorId
+called newborn letters = fold (λ ids l. insert_key actor_cmp ids l.to) (in_order_once newborn) letters
+
+abbrev pub is_occupied : List ActorId → Bool
+is_occupied [] = false
+is_occupied (id ∷ ids) = true
+
+-- all at the opening, those that asked for the tick at its first diasca, and the called later
 abbrev pub scheduled : {A : Type 0} → World A → Moment → List ActorId
-scheduled w at = if is_opening at then living_from 1 w.states else (if is_spontaneous at then due at.tick w.agenda else [])
+scheduled w at = if is_opening at then living_from 1 w.states else (if is_spontaneous at then due at.tick w.agenda else called w.newborn w.letters)
 
 -- ---- entering
 
@@ -51,43 +74,105 @@ enter w at = record w { agenda = if is_spontaneous at then without at.tick w.age
 abbrev pub state_of : {A : Type 0} → List (Option A) → ActorId → Option A
 state_of states id = if nat_eq id.0 0 then None else option_flatten (slice_get states (id.0 - 1))
 
-abbrev pub event_at : Moment → Seen
-event_at at = seen (is_opening at) (is_spontaneous at) []
+abbrev pub is_among : List ActorId → ActorId → Bool
+is_among ids id = list_any (λ k. nat_eq k.0 id.0) ids
 
-abbrev pub outcome_of : {A : Type 0} → Meaning A → ℕ → Moment → List (Option A) → ActorId → Option (Outcome A)
-outcome_of m seed at states id =
-    option_map (λ a. m.acts a (record { seed = seed; now = at; me = id }) (event_at at)) (state_of states id)
+-- of these letters, sent at the diasca before, those to the actor, in order
+abbrev pub inbox_at : ℕ → Moment → List Letter → ActorId → List Letter
+inbox_at seed at letters id = if nat_eq at.diasca 0 then [] else inbox_order letters id seed (record { tick = at.tick; diasca = at.diasca - 1 })
 
-abbrev pub report_of : {A : Type 0} → Meaning A → ℕ → Moment → List (Option A) → ActorId → Option (Report A)
-report_of m seed at states id = option_map (λ o. record { id = id; outcome = o }) (outcome_of m seed at states id)
+-- the first event of all at the opening, and of the newborn
+abbrev pub event_at : {A : Type 0} → ℕ → Moment → World A → ActorId → Seen
+event_at seed at w id = seen (is_opening at || is_among w.newborn id) (is_spontaneous at) (inbox_at seed at w.letters id)
+
+abbrev pub outcome_of : {A : Type 0} → Meaning A → ℕ → Moment → World A → ActorId → Option (Outcome A)
+outcome_of m seed at w id =
+    option_map (λ a. m.acts a (record { seed = seed; now = at; me = id }) (event_at seed at w id)) (state_of w.states id)
+
+abbrev pub report_of : {A : Type 0} → Meaning A → ℕ → Moment → World A → ActorId → Option (Report A)
+report_of m seed at w id = option_map (λ o. record { id = id; outcome = o }) (outcome_of m seed at w id)
 
 -- what comes of each that is scheduled, in the order of their numbers
 abbrev pub reports : {A : Type 0} → Meaning A → ℕ → Moment → World A → List (Report A)
-reports m seed at w = filter_map (report_of m seed at w.states) w.scheduled
+reports m seed at w = filter_map (report_of m seed at w) w.scheduled
 
 -- ---- the fault of a moment
 
--- that of the first actor that shows one
-abbrev pub fault_of_moment : {A : Type 0} → Meaning A → Moment → List (Report A) → Option Fault
-fault_of_moment m at [] = None
-fault_of_moment m at (r ∷ rs) =
-    option_or (option_map (λ code. record { actor = r.id; code = code }) (fault_shown m r.outcome at)) (fault_of_moment m at rs)
+-- that of the first actor that shows one; numbers are counted over all births, up to the last
+abbrev pub fault_of_moment : {A : Type 0} → Meaning A → ℕ → ℕ → Moment → List (Report A) → Option Fault
+fault_of_moment m last next at [] = None
+fault_of_moment m last next at (r ∷ rs) =
+    option_or (option_map (λ code. record { actor = r.id; code = code }) (fault_among m r.outcome at (bears_past last next r)))
+    (fault_of_moment m last (next + length r.outcome.births) at rs)
 
 -- ---- the close of a moment
 
+-- the next state of one that acted, or none if it retires
 abbrev pub put_state : {A : Type 0} → List (Option A) → Report A → List (Option A)
-put_state states r = if nat_eq r.id.0 0 then states else slice_set states (r.id.0 - 1) (Some r.outcome.state)
+put_state states r =
+    if nat_eq r.id.0 0 then states else slice_set states (r.id.0 - 1) (if r.outcome.retire then None else Some r.outcome.state)
+
+abbrev pub is_alive : {A : Type 0} → List (Option A) → ActorId → Bool
+is_alive states id = is_some (state_of states id)
+
+-- those who retire
+abbrev pub noted : {A : Type 0} → List ActorId → Report A → List ActorId
+noted ids r = if r.outcome.retire then insert_key actor_cmp ids r.id else ids
+
+abbrev pub retired : {A : Type 0} → List (Report A) → List ActorId
+retired rs = fold noted [] rs
 
 abbrev pub ask_of : {A : Type 0} → List Due → Report A → List Due
 ask_of agenda r = ask r.id agenda r.outcome.ticks
+
+-- what one sends, with serials from this one on
+abbrev pub posted : ActorId → ℕ → List Parcel → List Letter
+posted from serial [] = []
+posted from serial (p ∷ ps) = record { to = p.to; from = from; serial = serial; payload = p.payload } ∷ posted from (serial + 1) ps
+
+abbrev pub sends_of : {A : Type 0} → Report A → List Letter
+sends_of r = posted r.id 0 r.outcome.sends
+
+-- the sends in order of sender, and after them the birth letters
+abbrev pub letters_of : {A : Type 0} → List (Report A) → List (Newborn A) → List Letter
+letters_of rs born = flat_map sends_of rs ++ map birth_letter born
 
 -- the samples of an event as rows
 abbrev pub rows_of : {A : Type 0} → Moment → Report A → List Row
 rows_of at r = map (λ s. record { at = at; actor = r.id; probe = s.probe; value = s.value }) r.outcome.samples
 
--- the states are the next ones, and the ticks that were asked for join the agenda
-abbrev pub close : {A : Type 0} → World A → List (Report A) → World A
-close w rs = record w { states = fold put_state w.states rs; agenda = fold ask_of w.agenda rs; scheduled = [] }
+-- those that acted, and behind them the newborn
+abbrev pub states_after : {A : Type 0} → List (Option A) → List (Report A) → List (Newborn A) → List (Option A)
+states_after states rs born = fold put_state states rs ++ map (λ b. Some b.state) born
+
+-- the ticks that were asked for join the agenda, and those of the retired leave it
+abbrev pub agenda_after : {A : Type 0} → List Due → List (Report A) → List Due
+agenda_after agenda rs = filter (λ d. not (is_among (retired rs) d.actor)) (fold ask_of agenda rs)
+
+abbrev pub dead_among : {A : Type 0} → List (Option A) → List Letter → ℕ
+dead_among states letters = count_by (λ l. not (is_alive states l.to)) letters
+
+-- the world after the moment, where these were born: letters to the living stay, and the others are counted
+abbrev pub close_with : {A : Type 0} → Meaning A → World A → List (Report A) → List (Newborn A) → World A
+close_with m w rs born =
+    let states = states_after w.states rs born in
+    let letters = letters_of rs born in
+    record {
+      states = states;
+      agenda = agenda_after w.agenda rs;
+      letters = filter (λ l. is_alive states l.to) letters;
+      newborn = map (λ b. b.id) born;
+      scheduled = [];
+      cast = w.cast ++ map (member_born m) born;
+      dead_letters = min (w.dead_letters + dead_among states letters) (2 ^ 64 - 1);
+    }
+
+-- the number of the next newborn
+abbrev pub next_id : {A : Type 0} → World A → ℕ
+next_id w = length w.states + 1
+
+abbrev pub close : {A : Type 0} → Meaning A → World A → List (Report A) → World A
+close m w rs = close_with m w rs (births_of_moment m (next_id w) rs)
 
 -- ---- what comes next
 

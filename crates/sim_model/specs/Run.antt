@@ -7,7 +7,7 @@ use Rattle.sim_base.specs.declared.moment.Moment.{Moment}
 use Rattle.sim_base.specs.declared.moment.Row.{Row}
 use Rattle.actor_trait.specs.Meaning.{Meaning}
 use Rattle.sim_model.specs.Cast.{members_from}
-use Rattle.sim_model.specs.Moment.{close, enter, fault_of_moment, reports, rows_of, what_comes_next}
+use Rattle.sim_model.specs.Moment.{close, enter, fault_of_moment, next_id, reports, rows_of, what_comes_next}
 use Rattle.sim_model.specs.SetupParts.{SetupParts}
 use Rattle.sim_model.specs.declared.next.Next.{Next}
 use Rattle.sim_model.specs.declared.next.Next.TheVariants.{Enters, Ends}
@@ -22,7 +22,7 @@ use Rattle.sim_model.specs.declared.world.World.{World}
 
 -- the initial actors, nothing asked for
 abbrev pub opening_world : {A : Type 0} → Meaning A → SetupParts A → World A
-opening_world m s = record { states = map (λ a. Some a.state) s.actors; agenda = []; scheduled = []; cast = members_from m 1 s.actors; dead_letters = 0 }
+opening_world m s = record { states = map (λ a. Some a.state) s.actors; agenda = []; letters = []; newborn = []; scheduled = []; cast = members_from m 1 s.actors; dead_letters = 0 }
 
 -- a run enters (0,0) first
 abbrev pub start : {A : Type 0} → Meaning A → SetupParts A → Underway A
@@ -36,10 +36,10 @@ follow at world rows (Enters next) = Going (record { at = next; world = world; r
 follow at world rows (Ends ending) = ended at ending world rows
 
 -- a fault adds nothing and ends the run
-abbrev pub judge : {A : Type 0} → SetupParts A → Moment → World A → List Row → List (Report A) → Option Fault → Progress A
-judge s at entered rows rs (Some fault) = ended at (ending.Fault fault.actor fault.code) entered rows
-judge s at entered rows rs None =
-    let closed = close entered rs in
+abbrev pub judge : {A : Type 0} → Meaning A → SetupParts A → Moment → World A → List Row → List (Report A) → Option Fault → Progress A
+judge m s at entered rows rs (Some fault) = ended at (ending.Fault fault.actor fault.code) entered rows
+judge m s at entered rows rs None =
+    let closed = close m entered rs in
     follow at closed (rows ++ flat_map (rows_of at) rs) (what_comes_next s at closed)
 
 -- one moment
@@ -47,7 +47,7 @@ unfoldable pub step : {A : Type 0} → Meaning A → SetupParts A → Underway A
 step m s u =
     let entered = enter u.world u.at in
     let rs = reports m s.seed u.at entered in
-    judge s u.at entered u.rows rs (fault_of_moment m u.at rs)
+    judge m s u.at entered u.rows rs (fault_of_moment m s.max_actors (next_id entered) u.at rs)
 
 -- a run that is over stays so
 unfoldable pub goes_on : {A : Type 0} → Meaning A → SetupParts A → Progress A → Progress A

@@ -1,4 +1,6 @@
-ghost use Rattle.std.specs.Prelude.{◌≡◌, ◌++◌, [], IfOk, MatchOption, OnOk};
+ghost use Rattle.std.specs.Prelude.{◌≡◌, [], not, IfOk, OnOk};
+ghost use Rattle.std.specs.List.{filter};
+ghost use Rattle.sim_model.specs.Moment.{is_among};
 ghost use Rattle.sim_model.specs.declared.agenda.Due.{Due};
 
 use sim_base::{ActorId, Memory};
@@ -80,4 +82,21 @@ impl Agenda {
         }
         Ok(ids)
     }
+
+    /// Takes out all that these actors asked for.
+    pub(crate) fn drop_all(&mut self, actors: &BTreeSet<ActorId>)
+        ensures { self.new ≡ filter (λ d. not (is_among actors.now.keys d.actor)) self.old }
+    {
+        keep_others(&mut self.dues, actors);
+    }
+}
+
+/// Takes out all that is due for these actors: a pass over all of it only where there are any.
+fn keep_others(dues: &mut BTreeSet<Due>, actors: &BTreeSet<ActorId>)
+    ensures { dues.new.keys ≡ filter (λ d. not (is_among actors.now.keys d.actor)) dues.old.keys }
+{
+    if actors.is_empty() {
+        return;
+    }
+    dues.retain(|due| !actors.contains(&due.actor));
 }

@@ -15,7 +15,7 @@ pub struct Member {
     pub probes: Items<Name>,
 }
 
-fn probe_names<A: Actor>(alloc: Global, state: &A) -> Result<Items<Name>, Memory>
+pub(crate) fn probe_names<A: Actor>(alloc: Global, state: &A) -> Result<Items<Name>, Memory>
     ensures { IfOk result (λ names. names ≡ A.meaning.probes state.now) }
 {
     let mut names = Vec::new(alloc);

@@ -3,20 +3,26 @@
 #![tactic(auto)]
 
 mod agenda;
+mod births;
 mod cast;
+mod closing;
+mod letters;
 mod moment;
 mod next;
 mod report;
 mod run;
+mod settled;
 mod setup;
 #[cfg(test)]
 mod tests;
 mod world;
 
 pub use agenda::{Agenda, Due};
+pub use births::{Newborn, add_birth_letters};
 pub use cast::Member;
 pub use next::Next;
 pub use report::{Fault, Report};
 pub use run::{Ended, Progress, Results, Underway, each_run_ends, plain_run};
+pub use settled::Settled;
 pub use setup::{Setup, Start};
 pub use world::World;

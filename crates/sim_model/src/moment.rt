@@ -1,13 +1,20 @@
-ghost use Rattle.std.specs.Prelude.{◌≡◌, ◌+◌, ◌<◌, ◌^◌, ◌++◌, [], if◌then◌else◌, length, IfOk, OnOk};
-ghost use Rattle.std.specs.List.{cons_option, filter_map, flat_map, fold};
-ghost use Rattle.std.specs.Option.{option_copied};
-ghost use Rattle.sim_model.specs.Agendas.{Rises, ask, due, without};
-ghost use Rattle.sim_model.specs.Moment.{ask_of, close, enter, fault_of_moment, is_opening, is_spontaneous, living_from, outcome_of, put_state, report_of, rows_of, state_of, what_comes_next};
+ghost use Rattle.std.specs.Prelude.{◌≡◌, ◌+◌, ◌-◌, ◌<◌, ◌≤◌, ◌^◌, ◌++◌, [], ◌||◌, if◌then◌else◌, length, IfOk, OnOk};
+ghost use Rattle.std.specs.BTreeSet.{insert_key};
+ghost use Rattle.std.specs.List.{cons_option, fold};
+ghost use Rattle.std.specs.Option.{option_map};
+ghost use Rattle.sim_base.specs.declared.ids.ActorId.{ActorId};
+ghost use Rattle.actor_trait.specs.Seen.{seen};
+ghost use Rattle.inbox_order.specs.Inboxes.{inbox_of};
+ghost use Rattle.sim_model.specs.Agendas.{Rises, due, without};
+ghost use Rattle.sim_model.specs.Moment.{actor_cmp, called, enter, fault_of_moment, in_order_once, inbox_at, is_among, is_occupied, is_opening, is_spontaneous, living_from, report_of, reports, state_of, what_comes_next};
 
-use crate::{Agenda, Due, Fault, Next, Report, Setup, World};
-use actor_trait::{Actor, Context, Event, Outcome, fault_of};
-use sim_base::{ActorId, Ending, Items, Memory, Moment, Row};
-use std::alloc::Global;
+use crate::letters::find;
+use crate::{Agenda, Fault, Next, Report, Setup, World};
+use actor_trait::{Actor, Context, Event, Letter, Outcome, fault_among};
+use inbox_order::Inboxes;
+use sim_base::{ActorId, Ending, Items, Memory, Moment};
+use std::alloc::{AllocError, Global};
+use std::collections::BTreeSet;
 
 fn living<A>(alloc: Global, states: &[Option<A>]) -> Result<Vec<ActorId>, Memory>
     requires { length states.now + 1 < 2 ^ 32 }
@@ -24,20 +31,70 @@ fn living<A>(alloc: Global, states: &[Option<A>]) -> Result<Vec<ActorId>, Memory
     Ok(ids)
 }
 
+/// Adds an actor, where it isn't there already.
+pub(crate) fn add_to(ids: &mut BTreeSet<ActorId>, id: ActorId) -> Result<(), Memory>
+    ensures { OnOk result (ids.new.keys ≡ insert_key actor_cmp ids.old.keys id) }
+{
+    ids.insert(id)?;
+    Ok(())
+}
+
+/// These actors as a set.
+fn set_of(alloc: Global, ids: &[ActorId]) -> Result<BTreeSet<ActorId>, Memory>
+    ensures keys { IfOk result (λ set. set.keys ≡ in_order_once ids.now) }
+    ensures members { IfOk result (λ set. (id : ActorId) → is_among set.keys id ≡ is_among ids.now id) }
+{
+    let mut set = BTreeSet::new(alloc);
+    for id in ids {
+        add_to(&mut set, *id)?;
+    }
+    Ok(set)
+}
+
+fn add_recipients(ids: &mut BTreeSet<ActorId>, letters: &[Letter]) -> Result<(), Memory>
+    ensures { OnOk result (ids.new.keys ≡ fold (λ ids l. insert_key actor_cmp ids l.to) ids.old.keys letters.now) }
+{
+    for letter in letters {
+        add_to(ids, letter.to)?;
+    }
+    Ok(())
+}
+
+fn listed(alloc: Global, ids: &BTreeSet<ActorId>) -> Result<Vec<ActorId>, AllocError>
+    ensures { IfOk result (λ list. list.items ≡ ids.now.keys) }
+{
+    ids.iter().copied().collect(alloc)
+}
+
+/// The newborn and all who have a letter.
+fn all_called(
+    alloc: Global,
+    newborn: &[ActorId],
+    letters: &[Letter],
+) -> Result<Vec<ActorId>, Memory>
+    ensures { IfOk result (λ ids. ids.items ≡ called newborn.now letters.now) }
+{
+    let mut ids = set_of(alloc, newborn)?;
+    add_recipients(&mut ids, letters)?;
+    Ok(listed(alloc, &ids)?)
+}
+
 /// Who is scheduled at a moment. A tick that is entered leaves the agenda.
 fn take_scheduled<A>(
     alloc: Global,
     states: &[Option<A>],
     agenda: &mut Agenda,
+    newborn: &[ActorId],
+    letters: &[Letter],
     at: Moment,
 ) -> Result<Vec<ActorId>, Memory>
     requires count { length states.now + 1 < 2 ^ 32 }
     requires agenda { Rises at.tick agenda.old }
-    ensures ids { IfOk result (λ ids. ids.items ≡ (if is_opening at then living_from 1 states.now else (if is_spontaneous at then due at.tick agenda.old else []))) }
+    ensures ids { IfOk result (λ ids. ids.items ≡ (if is_opening at then living_from 1 states.now else (if is_spontaneous at then due at.tick agenda.old else called newborn.now letters.now))) }
     ensures rest { OnOk result (agenda.new ≡ (if is_spontaneous at then without at.tick agenda.old else agenda.old)) }
 {
     if at.diasca != 0 {
-        Ok(Vec::new(alloc))
+        all_called(alloc, newborn, letters)
     } else if at.tick == 0 {
         living(alloc, states)
     } else {
@@ -58,68 +115,86 @@ pub(crate) fn enter_at<A: Drop>(
     let World {
         states,
         mut agenda,
+        letters,
+        newborn,
         scheduled: _,
         cast,
         dead_letters,
     } = world;
-    let scheduled = take_scheduled(alloc, states.as_slice(), &mut agenda, at)?;
+    let scheduled = take_scheduled(
+        alloc,
+        states.as_slice(),
+        &mut agenda,
+        newborn.as_slice(),
+        letters.as_slice(),
+        at,
+    )?;
     Ok(World {
         states,
         agenda,
+        letters,
+        newborn,
         scheduled: Items::of(scheduled),
         cast,
         dead_letters,
     })
 }
 
-fn find<A>(states: &[Option<A>], id: ActorId) -> Option<&A>
-    ensures { option_copied result ≡ state_of states.now id }
+/// The inboxes at a moment: at diasca 0 nobody has a letter.
+fn inboxes_at(alloc: Global, seed: u64, at: Moment, letters: &[Letter]) -> Result<Inboxes, Memory>
+    ensures { IfOk result (λ inboxes. (id : ActorId) → inbox_of inboxes id ≡ inbox_at seed at letters.now id) }
 {
-    if id.0 == 0 {
-        return None;
+    if at.diasca == 0 {
+        let none = Inboxes::of(alloc, &[], seed, at)?;
+        return Ok(none);
     }
-    match states.get(id.0 as usize - 1) {
-        Some(state) => state.as_ref(),
-        None => None,
-    }
+    let sent = Moment {
+        tick: at.tick,
+        diasca: at.diasca - 1,
+    };
+    Inboxes::of(alloc, letters, seed, sent)
 }
 
+/// What comes of the event of an actor, whose first one it is at the opening and among the newborn.
 fn act<A: Actor>(
     alloc: Global,
-    seed: u64,
-    at: Moment,
+    context: &Context,
     states: &[Option<A>],
-    id: ActorId,
+    newborn: &BTreeSet<ActorId>,
+    inboxes: &Inboxes,
 ) -> Result<Option<Outcome<A>>, Memory>
-    ensures { IfOk result (λ o. o ≡ outcome_of A.meaning seed at states.now id) }
+    ensures { IfOk result (λ o. o ≡ option_map (λ a. A.meaning.acts a context.entry.now
+        (seen (is_opening context.entry.now.now || is_among newborn.now.keys context.entry.now.me)
+        (is_spontaneous context.entry.now.now) (inbox_of inboxes.now context.entry.now.me))) (state_of states.now context.entry.now.me)) }
 {
-    let Some(state) = find(states, id) else {
+    let Some(state) = find(states, context.me) else {
         return Ok(None);
     };
-    let context = Context {
-        seed,
-        now: at,
-        me: id,
-    };
+    let at = context.now;
     let event = Event {
-        first: at.tick == 0 && at.diasca == 0,
+        first: (at.tick == 0 && at.diasca == 0) || newborn.contains(&context.me),
         spontaneous: !(at.tick == 0) && at.diasca == 0,
-        inbox: &[],
+        inbox: inboxes.inbox(context.me),
     };
-    Ok(Some(state.act(alloc, &context, &event)?))
+    Ok(Some(state.act(alloc, context, &event)?))
 }
 
 fn report<A: Actor>(
     alloc: Global,
-    seed: u64,
-    at: Moment,
-    states: &[Option<A>],
-    id: ActorId,
+    context: &Context,
+    world: &World<A>,
+    newborn: &BTreeSet<ActorId>,
+    inboxes: &Inboxes,
 ) -> Result<Option<Report<A>>, Memory>
-    ensures { IfOk result (λ r. r ≡ report_of A.meaning seed at states.now id) }
+    requires newborn { is_among newborn.now.keys context.now.me ≡ is_among world.now.newborn context.now.me }
+    requires inbox { inbox_of inboxes.now context.now.me ≡ inbox_at context.now.seed context.now.now world.now.letters context.now.me }
+    ensures { IfOk result (λ r. r ≡ report_of A.meaning context.entry.now.seed context.entry.now.now world.now context.entry.now.me) }
 {
-    match act(alloc, seed, at, states, id)? {
-        Some(outcome) => Ok(Some(Report { id, outcome })),
+    match act(alloc, context, world.states.as_slice(), newborn, inboxes)? {
+        Some(outcome) => Ok(Some(Report {
+            id: context.me,
+            outcome,
+        })),
         None => Ok(None),
     }
 }
@@ -133,135 +208,83 @@ fn push_some<T: Drop>(all: &mut Vec<T>, item: Option<T>) -> Result<(), Memory>
     Ok(())
 }
 
-/// What comes of each that is scheduled.
+/// What comes of each that is scheduled at the moment that is entered.
 pub(crate) fn report_all<A: Actor + Drop>(
     alloc: Global,
     seed: u64,
     at: Moment,
-    states: &[Option<A>],
-    scheduled: &[ActorId],
+    world: &World<A>,
 ) -> Result<Items<Report<A>>, Memory>
-    ensures { IfOk result (λ all. all ≡ filter_map (report_of A.meaning seed at states.now) scheduled.now) }
+    ensures { IfOk result (λ all. all ≡ reports A.meaning seed at world.now) }
 {
+    let newborn = set_of(alloc, world.newborn.as_slice())?;
+    let inboxes = inboxes_at(alloc, seed, at, world.letters.as_slice())?;
+    let scheduled = world.scheduled.as_slice();
     let mut all = Vec::with_capacity(alloc, scheduled.len())?;
     for id in scheduled {
-        let found = report(alloc, seed, at, states, *id)?;
+        let context = Context {
+            seed,
+            now: at,
+            me: *id,
+        };
+        let found = report(alloc, &context, world, &newborn, &inboxes)?;
         push_some(&mut all, found)?;
     }
     Ok(Items::of(all))
 }
 
-/// The first fault that is shown.
-pub(crate) fn first_fault<A: Actor>(reports: &[Report<A>], at: Moment) -> Option<Fault>
-    ensures { result ≡ fault_of_moment A.meaning at reports.now }
+/// The first fault that is shown, where the next newborn has the number `first`, and no actor one past
+/// `last`.
+pub(crate) fn first_fault<A: Actor>(
+    reports: &[Report<A>],
+    last: u32,
+    first: u32,
+    at: Moment,
+) -> Option<Fault>
+    requires last { last < 2 ^ 32 - 1 }
+    requires first { first ≤ last + 1 }
+    ensures { result ≡ fault_of_moment A.meaning last first at reports.now }
 {
+    let mut next = first;
     for report in reports {
-        if let Some(code) = fault_of(&report.outcome, at) {
+        let births = report.outcome.births.len();
+        let room = (last + 1 - next) as usize;
+        if let Some(code) = fault_among(&report.outcome, at, room < births) {
             return Some(Fault {
                 actor: report.id,
                 code,
             });
         }
+        next += births.min(room) as u32;
     }
     None
 }
 
-fn ask_all(agenda: &mut Agenda, actor: ActorId, ticks: &[u64]) -> Result<(), Memory>
-    ensures { OnOk result (agenda.new ≡ ask actor agenda.old ticks.now) }
+/// Whether somebody is called at the next diasca.
+fn calls_somebody(newborn: &[ActorId], letters: &[Letter]) -> bool
+    ensures { result ≡ is_occupied (called newborn.now letters.now) }
 {
-    for tick in ticks {
-        agenda.add(Due { tick: *tick, actor })?;
-    }
-    Ok(())
+    0 < newborn.len() || 0 < letters.len()
 }
 
-fn ask_reports<A>(agenda: &mut Agenda, reports: &[Report<A>]) -> Result<(), Memory>
-    ensures { OnOk result (agenda.new ≡ fold ask_of agenda.old reports.now) }
-{
-    for report in reports {
-        ask_all(agenda, report.id, report.outcome.ticks.as_slice())?;
-    }
-    Ok(())
-}
-
-fn add_rows_of<A>(rows: &mut Vec<Row>, at: Moment, report: &Report<A>) -> Result<(), Memory>
-    ensures { OnOk result (rows.new.items ≡ rows.old.items ++ rows_of at report.now) }
-{
-    for sample in report.outcome.samples.as_slice() {
-        rows.push(Row {
-            at,
-            actor: report.id,
-            probe: sample.probe,
-            value: sample.value,
-        })?;
-    }
-    Ok(())
-}
-
-/// The rows so far, and behind them those of a moment.
-pub(crate) fn add_rows<A>(
-    rows: Items<Row>,
-    at: Moment,
-    reports: &[Report<A>],
-) -> Result<Items<Row>, Memory>
-    ensures { IfOk result (λ all. all ≡ rows ++ flat_map (rows_of at) reports.now) }
-{
-    let mut all = rows.into_vec();
-    for report in reports {
-        add_rows_of(&mut all, at, report)?;
-    }
-    Ok(Items::of(all))
-}
-
-fn put_in<A: Drop>(states: &mut [Option<A>], report: Report<A>)
-    ensures { states.new ≡ put_state states.old report }
-{
-    let Report { id, outcome } = report;
-    if id.0 != 0 && (id.0 as usize) <= states.len() {
-        states[id.0 as usize - 1] = Some(outcome.state);
-    }
-}
-
-fn put_states<A: Drop>(states: Items<Option<A>>, reports: Items<Report<A>>) -> Items<Option<A>>
-    ensures { result ≡ fold put_state states reports }
-{
-    let mut all = states.into_vec();
-    for report in reports.into_vec() {
-        put_in(&mut all, report);
-    }
-    Items::of(all)
-}
-
-/// The world after a moment at which nobody shows a fault.
-pub(crate) fn close_all<A: Drop>(
-    alloc: Global,
-    world: World<A>,
-    reports: Items<Report<A>>,
-) -> Result<World<A>, Memory>
-    ensures { IfOk result (λ closed. closed ≡ close world reports) }
-{
-    let World {
-        states,
-        mut agenda,
-        scheduled: _,
-        cast,
-        dead_letters,
-    } = world;
-    ask_reports(&mut agenda, reports.as_slice())?;
-    Ok(World {
-        states: put_states(states, reports),
-        agenda,
-        scheduled: Items::new(alloc),
-        cast,
-        dead_letters,
-    })
-}
-
-/// What comes after a moment that closed: nobody is scheduled later in its tick, so the least tick
-/// of the agenda decides.
-pub(crate) fn next_after<A>(setup: &Setup<A>, at: Moment, world: &World<A>) -> Next
+/// What comes after a moment that closed: the next diasca where somebody is called there, else the least
+/// tick of the agenda.
+pub(crate) fn what_next<A>(setup: &Setup<A>, at: Moment, world: &World<A>) -> Next
+    requires { at.diasca < setup.now.diasca_limit }
     ensures { result ≡ what_comes_next setup.now at world.now }
 {
+    let limit = setup.diasca_limit;
+    if calls_somebody(world.newborn.as_slice(), world.letters.as_slice()) {
+        let diasca = at.diasca + 1;
+        return if diasca == limit {
+            Next::Ends(Ending::DiascaLimit)
+        } else {
+            Next::Enters(Moment {
+                tick: at.tick,
+                diasca,
+            })
+        };
+    }
     match world.agenda.least() {
         None => Next::Ends(Ending::Exhausted),
         Some(tick) => {

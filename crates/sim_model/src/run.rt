@@ -1,10 +1,11 @@
-ghost use Rattle.std.specs.Prelude.{◌≡◌, ◌+◌, ◌<◌, ◌≤◌, ◌^◌, length, map, IfOk, Some};
+ghost use Rattle.std.specs.Prelude.{◌≡◌, ◌+◌, ◌<◌, ◌≤◌, length, map, IfOk, Some};
 ghost use Rattle.sim_model.specs.Agendas.{Rises};
-ghost use Rattle.sim_model.specs.Moment.{fault_of_moment};
+ghost use Rattle.sim_model.specs.Moment.{fault_of_moment, next_id};
 ghost use Rattle.sim_model.specs.Run.{IsRun, RunEnds, follow, judge, results_of, start, step};
 
 use crate::cast::opening_cast;
-use crate::moment::{add_rows, close_all, enter_at, first_fault, next_after, report_all};
+use crate::closing::{add_rows, close_all};
+use crate::moment::{enter_at, first_fault, report_all, what_next};
 use crate::{Agenda, Member, Next, Report, Setup, Start, World};
 use actor_trait::Actor;
 use sim_base::{Ending, Items, Memory, Moment, Row};
@@ -71,6 +72,8 @@ fn begin<A: Actor + Drop>(alloc: Global, setup: &Setup<A>) -> Result<Underway<A>
         world: World {
             states: first_states(alloc, setup.actors.as_slice())?,
             agenda: Agenda::new(alloc),
+            letters: Items::new(alloc),
+            newborn: Items::new(alloc),
             scheduled: Items::new(alloc),
             cast: opening_cast(alloc, setup.actors.as_slice())?,
             dead_letters: 0,
@@ -101,9 +104,14 @@ fn judge_all<A: Actor + Drop>(
     rows: Items<Row>,
     reports: Items<Report<A>>,
 ) -> Result<Progress<A>, Memory>
-    ensures { IfOk result (λ p. p ≡ judge setup.now at entered rows reports (fault_of_moment A.meaning at reports)) }
+    requires count { length entered.states ≤ setup.now.max_actors }
+    requires diasca { at.diasca < setup.now.diasca_limit }
+    ensures { IfOk result (λ p. p ≡ judge A.meaning setup.now at entered rows reports
+        (fault_of_moment A.meaning setup.now.max_actors (next_id entered) at reports)) }
 {
-    if let Some(fault) = first_fault(reports.as_slice(), at) {
+    let last = setup.max_actors;
+    let first = entered.states.len() as u32 + 1;
+    if let Some(fault) = first_fault(reports.as_slice(), last, first, at) {
         let ending = Ending::Fault {
             actor: fault.actor,
             code: fault.code,
@@ -112,7 +120,7 @@ fn judge_all<A: Actor + Drop>(
     }
     let rows = add_rows(rows, at, reports.as_slice())?;
     let closed = close_all(alloc, entered, reports)?;
-    let next = next_after(setup, at, &closed);
+    let next = what_next(setup, at, &closed);
     Ok(follow_on(at, closed, rows, next))
 }
 
@@ -122,14 +130,15 @@ fn advance<A: Actor + Drop>(
     setup: &Setup<A>,
     underway: Underway<A>,
 ) -> Result<Progress<A>, Memory>
-    requires count { length underway.world.states + 1 < 2 ^ 32 }
+    requires count { length underway.world.states ≤ setup.now.max_actors }
+    requires diasca { underway.at.diasca < setup.now.diasca_limit }
     requires agenda { Rises underway.at.tick underway.world.agenda }
     ensures { IfOk result (λ p. p ≡ step A.meaning setup.now underway) }
 {
     let Underway { at, world, rows } = underway;
+    let seed = setup.seed;
     let entered = enter_at(alloc, world, at)?;
-    let states = entered.states.as_slice();
-    let reports = report_all(alloc, setup.seed, at, states, entered.scheduled.as_slice())?;
+    let reports = report_all(alloc, seed, at, &entered)?;
     judge_all(alloc, setup, at, entered, rows, reports)
 }
 

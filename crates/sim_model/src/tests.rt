@@ -10,6 +10,8 @@ fn worlds_cross_threads<A: Send + Sync>() {
     crosses_threads::<Setup<A>>();
     crosses_threads::<World<A>>();
     crosses_threads::<Report<A>>();
+    crosses_threads::<Newborn<A>>();
+    crosses_threads::<Settled<A>>();
     crosses_threads::<Underway<A>>();
     crosses_threads::<Ended<A>>();
     crosses_threads::<Progress<A>>();

@@ -1,4 +1,5 @@
 use crate::{Agenda, Member};
+use actor_trait::Letter;
 use sim_base::{ActorId, Items};
 
 /// A world between two moments, or at a moment that is entered and not yet closed.
@@ -8,6 +9,11 @@ pub struct World<A> {
     pub states: Items<Option<A>>,
     /// Who asked for which tick.
     pub agenda: Agenda,
+    /// The letters that were sent at the moment closed last, to the living: the sends in order of
+    /// sender, and after them the letters that tell creators of births.
+    pub letters: Items<Letter>,
+    /// Those that were born when the moment closed last, ascending.
+    pub newborn: Items<ActorId>,
     /// Who is scheduled at the moment that is entered, ascending; empty once it is closed.
     pub scheduled: Items<ActorId>,
     /// Everybody so far, ascending.

@@ -1,2 +1,3 @@
-pub mod ShopLaws
-pub mod Shops
+pub mod KindLaws
+pub mod Kinds
+pub mod Puppets

@@ -1,12 +1,16 @@
-//! Cases through the whole engine, from the bytes of a scenario to the bytes of its text, and a
-//! shop whose depots and refills are actors of one type. Their expected values were worked out by
-//! hand or by another program.
+//! Cases through the whole engine, from the bytes of a scenario to the bytes of its text, and
+//! through the plain run alone, with actors of all kinds and with puppets, which do what no kind
+//! does. Their expected values were worked out by hand or by another program.
 #![tactic(auto)]
 
-mod shop;
+mod any_kind;
 #[cfg(test)]
-mod shop_tests;
+mod kind_tests;
+#[cfg(test)]
+mod plain_run_tests;
+mod puppet;
 #[cfg(test)]
 mod tests;
 
-pub use shop::Shop;
+pub use any_kind::AnyKind;
+pub use puppet::{LISTENER, Puppet};

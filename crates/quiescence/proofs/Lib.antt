@@ -1,0 +1,10 @@
+pub mod Stands
+pub mod Plays
+pub mod Reports
+pub mod Learns
+pub mod Keeping
+pub mod Looks
+pub mod Totals
+pub mod Left
+pub mod Finishing
+pub mod Trials

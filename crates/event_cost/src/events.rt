@@ -1,6 +1,6 @@
 ghost use Rattle.std.specs.Prelude.{◌≡◌, IfOk};
 ghost use Rattle.actor_trait.specs.Seen.{seen};
-ghost use Rattle.event_bench.specs.Repeats.{after_ticks, context_at};
+ghost use Rattle.event_cost.specs.Repeats.{after_ticks, context_at};
 
 use actor_trait::{Actor, Ball, Clock, Context, Event, Letter, Payload};
 use hash_seed::letter_key;

@@ -1,4 +1,4 @@
-//! The program `event_bench WHAT COUNT` does so many events of a clock, a ball or a customer, or makes
+//! The program `event_cost WHAT COUNT` does so many events of a clock, a ball or a customer, or makes
 //! so many keys, and prints a number that each of them changed. `bench/events` times it.
 #![tactic(auto)]
 

@@ -15,6 +15,9 @@ fn data_crosses_threads() {
     crosses_threads::<Settled<Clock>>();
 }
 
+/// The greatest number.
+const MOST: u32 = u32::MAX;
+
 const NOW: Moment = Moment { tick: 5, diasca: 2 };
 
 fn clock(period: u8) -> Clock
@@ -36,6 +39,15 @@ struct Shown {
     probe: u32,
     own: u32,
     retires: bool,
+}
+
+fn shows(births: u8, probe: u32, own: u32) -> Shown {
+    Shown {
+        births,
+        probe,
+        own,
+        retires: false,
+    }
 }
 
 fn report(alloc: Global, id: u32, shown: Shown) -> Result<Report<Clock>, Memory>
@@ -81,17 +93,10 @@ fn settle_two(
 #[test]
 fn two_creators_of_whom_one_retires(rt: HostRuntime) -> Result<(), Fail> {
     let alloc = rt.alloc();
-    let shown = Shown {
-        births: 2,
-        probe: 0,
-        own: 0,
-        retires: false,
-    };
-    let first = report(alloc, 2, shown)?;
+    let first = report(alloc, 2, shows(2, 0, 0))?;
     let leaver = Shown {
-        births: 1,
         retires: true,
-        ..shown
+        ..shows(1, 0, 0)
     };
     let second = report(alloc, 5, leaver)?;
     let Settled::Settled {
@@ -153,51 +158,30 @@ fn two_creators_of_whom_one_retires(rt: HostRuntime) -> Result<(), Fail> {
 #[test]
 fn the_first_fault_of_two_actors(rt: HostRuntime) -> Result<(), Fail> {
     let alloc = rt.alloc();
-    // births, probe and own code of actors 3 and 6, the next number and the last, and who shows what
+    // what actors 3 and 6 show, the next number, the last, and the fault
     for (first, second, next_id, max_actors, want) in [
-        ((0, 0, 17), (0, 0, 5), 7, 9, Some((3, 17))),
-        ((0, 0, 0), (0, 0, 5), 7, 9, Some((6, 5))),
-        ((2, 0, 0), (1, 0, 0), 7, 9, None),
-        ((3, 0, 0), (0, 0, 0), 7, 9, None),
-        ((4, 0, 0), (0, 0, 5), 7, 9, Some((3, 902))),
-        ((2, 0, 0), (2, 0, 0), 7, 9, Some((6, 902))),
-        ((0, 0, 0), (0, 0, 0), 7, 6, None),
-        ((0, 0, 0), (1, 0, 0), 7, 6, Some((6, 902))),
-        ((1, 1, 0), (0, 0, 0), 7, 6, Some((3, 902))),
-        ((1, 1, 0), (0, 0, 0), 7, 7, Some((3, 903))),
-        ((1, 0, 40), (0, 0, 0), 7, 6, Some((3, 40))),
-        ((0, 0, 0), (1, 0, 0), u32::MAX, u32::MAX, None),
-        ((1, 0, 0), (1, 0, 0), u32::MAX, u32::MAX, Some((6, 902))),
+        (shows(0, 0, 17), shows(0, 0, 5), 7, 9, Some((3, 17))),
+        (shows(0, 0, 0), shows(0, 0, 5), 7, 9, Some((6, 5))),
+        (shows(2, 0, 0), shows(1, 0, 0), 7, 9, None),
+        (shows(3, 0, 0), shows(0, 0, 0), 7, 9, None),
+        (shows(4, 0, 0), shows(0, 0, 5), 7, 9, Some((3, 902))),
+        (shows(2, 0, 0), shows(2, 0, 0), 7, 9, Some((6, 902))),
+        (shows(0, 0, 0), shows(0, 0, 0), 7, 6, None),
+        (shows(0, 0, 0), shows(1, 0, 0), 7, 6, Some((6, 902))),
+        (shows(1, 1, 0), shows(0, 0, 0), 7, 6, Some((3, 902))),
+        (shows(1, 1, 0), shows(0, 0, 0), 7, 7, Some((3, 903))),
+        (shows(1, 0, 40), shows(0, 0, 0), 7, 6, Some((3, 40))),
+        (shows(0, 0, 0), shows(1, 0, 0), MOST, MOST, None),
+        (shows(1, 0, 0), shows(1, 0, 0), MOST, MOST, Some((6, 902))),
     ] {
-        let (births, probe, own) = first;
-        let retires = false;
-        let one = report(
-            alloc,
-            3,
-            Shown {
-                births,
-                probe,
-                own,
-                retires,
-            },
-        )?;
-        let (births, probe, own) = second;
-        let other = report(
-            alloc,
-            6,
-            Shown {
-                births,
-                probe,
-                own,
-                retires,
-            },
-        )?;
+        let one = report(alloc, 3, first)?;
+        let other = report(alloc, 6, second)?;
         assert!(rt; u64::from(next_id) <= u64::from(max_actors) + 1);
-        let shown = match settle_two(alloc, one, other, next_id, max_actors)? {
+        let fault = match settle_two(alloc, one, other, next_id, max_actors)? {
             Settled::Faulted { actor, code } => Some((actor.0, code)),
             Settled::Settled { .. } => None,
         };
-        assert_eq!(rt; shown, want);
+        assert_eq!(rt; fault, want);
     }
     Ok(())
 }

@@ -1,0 +1,12 @@
+//! What a run is written as: the rules that select series, and the text of the selected samples.
+#![tactic(auto)]
+
+mod chains;
+mod pattern;
+mod rules;
+mod run_text;
+#[cfg(test)]
+mod tests;
+
+pub use rules::{Rules, RulesFault};
+pub use run_text::text;

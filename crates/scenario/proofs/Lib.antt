@@ -1,0 +1,10 @@
+pub mod Facts
+pub mod Law
+pub mod Least
+pub mod Lists
+pub mod Loops
+pub mod Placing
+pub mod Printable
+pub mod Printed
+pub mod Trees
+pub mod Unknown

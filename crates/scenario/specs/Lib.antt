@@ -1,0 +1,14 @@
+pub mod Answers
+pub mod AnyActorLaws
+pub mod AnyActors
+pub mod Drafts
+pub mod FieldBytes
+pub mod Fields
+pub mod Format
+pub mod Kinds
+pub mod Names
+pub mod Print
+pub mod ScenarioParts
+pub mod Selection
+pub mod Sketches
+pub mod Valid

@@ -1,3 +1,1 @@
-pub mod KindLaws
-pub mod Kinds
 pub mod Puppets

@@ -1,8 +1,8 @@
 ghost use Rattle.std.specs.Prelude.{◌≡◌, ◌≤◌, IfOk};
 
-use crate::AnyKind;
 use actor_lifecycle::settle;
 use actor_trait::{Actor, Context, Event, Letter, Outcome, Payload, fault_of};
+use scenario::AnyActor;
 use sim_base::{ActorId, Items, Memory, Moment};
 use sim_model::{Report, Settled};
 use soda_model::{Depot, Refill};
@@ -13,7 +13,7 @@ fn crosses_threads<T: Send + Sync>() {}
 
 #[test]
 fn kinds_cross_threads() {
-    crosses_threads::<AnyKind>();
+    crosses_threads::<AnyActor>();
 }
 
 const MACHINE: ActorId = ActorId(3);
@@ -68,7 +68,7 @@ fn from(sender: u32, serial: u32) -> Letter {
 #[test]
 fn a_depot_asks_its_tick_and_bears_refills(rt: HostRuntime) -> Result<(), Fail> {
     let alloc = rt.alloc();
-    let depot = AnyKind::Depot(DEPOT);
+    let depot = AnyActor::Depot(DEPOT);
     let opening = moment(0, 0);
     let outcome = outcome_of(alloc, &depot, opening, true, &[])?;
     assert_eq!(rt; outcome.ticks.as_slice(), [9].as_slice());
@@ -77,7 +77,7 @@ fn a_depot_asks_its_tick_and_bears_refills(rt: HostRuntime) -> Result<(), Fail> 
     assert_eq!(rt; fault_of(&outcome, opening), None);
     let tick = moment(9, 0);
     let outcome = outcome_of(alloc, &depot, tick, false, &[])?;
-    let refill = AnyKind::Refill(Refill {
+    let refill = AnyActor::Refill(Refill {
         machine: MACHINE,
         cans: 6,
     });
@@ -89,12 +89,12 @@ fn a_depot_asks_its_tick_and_bears_refills(rt: HostRuntime) -> Result<(), Fail> 
 
 #[test]
 fn a_depot_counts_births(rt: HostRuntime) -> Result<(), Fail> {
-    let depot = AnyKind::Depot(DEPOT);
+    let depot = AnyActor::Depot(DEPOT);
     let now = moment(9, 1);
     let inbox = [from(0, 0), from(0, 1), from(4, 0)];
     let outcome = outcome_of(rt.alloc(), &depot, now, false, &inbox)?;
     let counted = Depot { born: 2, ..DEPOT };
-    assert_eq!(rt; outcome.state, AnyKind::Depot(counted));
+    assert_eq!(rt; outcome.state, AnyActor::Depot(counted));
     assert_eq!(rt; outcome.samples.len(), 1);
     assert_eq!(rt;
         outcome.samples.get(0).map(|s| (s.probe, s.value)),
@@ -110,7 +110,7 @@ fn a_depot_counts_births(rt: HostRuntime) -> Result<(), Fail> {
 #[test]
 fn a_refill_fills_its_machine_and_retires(rt: HostRuntime) -> Result<(), Fail> {
     let alloc = rt.alloc();
-    let born = outcome_of(alloc, &AnyKind::Depot(DEPOT), moment(9, 0), false, &[])?;
+    let born = outcome_of(alloc, &AnyActor::Depot(DEPOT), moment(9, 0), false, &[])?;
     let now = moment(9, 1);
     for refill in born.births.as_slice() {
         let refill = refill.copy(alloc)?;
@@ -135,16 +135,16 @@ fn a_refill_fills_its_machine_and_retires(rt: HostRuntime) -> Result<(), Fail> {
 }
 
 /// What a depot brings at tick 9, as this actor.
-fn report_of(alloc: Global, id: u32, depot: Depot) -> Result<Report<AnyKind>, Memory>
+fn report_of(alloc: Global, id: u32, depot: Depot) -> Result<Report<AnyActor>, Memory>
     ensures { IfOk result (λ report. report.id.0 ≡ id) }
 {
-    let outcome = outcome_of(alloc, &AnyKind::Depot(depot), moment(9, 0), false, &[])?;
+    let outcome = outcome_of(alloc, &AnyActor::Depot(depot), moment(9, 0), false, &[])?;
     let id = ActorId(id);
     Ok(Report { id, outcome })
 }
 
 /// The reports of two depots, the actors 2 and 3, of which each bears two refills.
-fn settle_depots(alloc: Global, max_actors: u32) -> Result<Settled<AnyKind>, Memory>
+fn settle_depots(alloc: Global, max_actors: u32) -> Result<Settled<AnyActor>, Memory>
     requires { 3 ≤ max_actors }
 {
     let first = report_of(alloc, 2, DEPOT)?;

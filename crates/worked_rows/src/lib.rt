@@ -3,7 +3,6 @@
 //! does. Their expected values were worked out by hand or by another program.
 #![tactic(auto)]
 
-mod any_kind;
 #[cfg(test)]
 mod kind_tests;
 #[cfg(test)]
@@ -12,5 +11,4 @@ mod puppet;
 #[cfg(test)]
 mod tests;
 
-pub use any_kind::AnyKind;
 pub use puppet::{LISTENER, Puppet};

@@ -1,5 +1,6 @@
-use crate::{AnyKind, LISTENER, Puppet};
+use crate::{LISTENER, Puppet};
 use actor_trait::{Actor, Ball, Clock, Fuse};
+use scenario::AnyActor;
 use sim_base::{ActorId, Ending, Items, Name, Row};
 use sim_model::{Member, Results, Setup, Start, each_run_ends, plain_run};
 use soda_model::{Customer, Depot, Machine};
@@ -397,8 +398,8 @@ fn a_machine_closes_before_the_money_comes(rt: HostRuntime) -> Result<(), Fail> 
             last_tick: 2,
             ..Case::of(
                 &[
-                    ("m", AnyKind::Machine(machine)),
-                    ("a", AnyKind::Customer(customer)),
+                    ("m", AnyActor::Machine(machine)),
+                    ("a", AnyActor::Customer(customer)),
                 ],
                 &[("a", "cans"), ("a", "money")],
                 "end,2,0,tick_limit,1\n",
@@ -440,7 +441,10 @@ fn two_balls_rally(rt: HostRuntime) -> Result<(), Fail> {
             Case {
                 diasca_limit,
                 ..Case::of(
-                    &[("p", AnyKind::Ball(server)), ("q", AnyKind::Ball(receiver))],
+                    &[
+                        ("p", AnyActor::Ball(server)),
+                        ("q", AnyActor::Ball(receiver)),
+                    ],
                     &[("p", "hits"), ("q", "hits")],
                     text,
                 )
@@ -463,9 +467,9 @@ fn the_first_of_two_fuses_counts(rt: HostRuntime) -> Result<(), Fail> {
         &rt,
         Case::of(
             &[
-                ("a", AnyKind::Fuse(first)),
-                ("b", AnyKind::Fuse(second)),
-                ("c", AnyKind::Clock(clock)),
+                ("a", AnyActor::Fuse(first)),
+                ("b", AnyActor::Fuse(second)),
+                ("c", AnyActor::Clock(clock)),
             ],
             &[("c", "beats")],
             "end,1,0,fault:1:41,0\n",
@@ -508,9 +512,9 @@ fn two_depots_bear_refills_where_there_is_room(rt: HostRuntime) -> Result<(), Fa
                 max_actors,
                 ..Case::of(
                     &[
-                        ("m", AnyKind::Machine(SHOP)),
-                        ("x", AnyKind::Depot(first)),
-                        ("y", AnyKind::Depot(second)),
+                        ("m", AnyActor::Machine(SHOP)),
+                        ("x", AnyActor::Depot(first)),
+                        ("y", AnyActor::Depot(second)),
                     ],
                     &DEPOT_SERIES,
                     text,
@@ -522,7 +526,7 @@ fn two_depots_bear_refills_where_there_is_room(rt: HostRuntime) -> Result<(), Fa
 }
 
 /// A machine and so many customers who come at once.
-fn crowd(alloc: Global, customers: u32) -> Result<Items<Start<AnyKind>>, Fail> {
+fn crowd(alloc: Global, customers: u32) -> Result<Items<Start<AnyActor>>, Fail> {
     let machine = Machine {
         stock: 2000,
         ..SHOP
@@ -537,13 +541,13 @@ fn crowd(alloc: Global, customers: u32) -> Result<Items<Start<AnyKind>>, Fail> {
     let mut actors = Vec::new(alloc);
     actors.push(Start {
         name: name("m")?,
-        state: AnyKind::Machine(machine),
+        state: AnyActor::Machine(machine),
     })?;
     for n in 1..=customers {
         let text = format!(in alloc; "c{n}")?;
         actors.push(Start {
             name: name(text.as_str())?,
-            state: AnyKind::Customer(customer),
+            state: AnyActor::Customer(customer),
         })?;
     }
     Ok(Items::of(actors))

@@ -1,9 +1,10 @@
-ghost use Rattle.std.specs.Prelude.{◌≡◌, ◌≤◌};
-ghost use Rattle.placement.specs.declared.policy.Policy.{Policy};
+ghost use Rattle.std.specs.Prelude.{◌≡◌};
+ghost use Rattle.placement.specs.declared.policy.Policy.TheVariants as policy;
 
 use crate::Policy;
+use std::marker::Model;
 
-/// How a run is spread over threads and managers.
+/// How a run is spread over threads and managers. Its numbers are always in their ranges.
 #[derive(Clone, Copy, Debug, PartialEq, Eq)]
 pub struct Plan {
     /// How many threads work: 1 to 64.
@@ -14,18 +15,24 @@ pub struct Plan {
     pub fanout: u32,
     /// How a new actor finds its manager.
     pub policy: Policy,
-    pub ghost workers_in_range: { (1 ≤ workers) × (workers ≤ 64) },
-    pub ghost managers_in_range: { (1 ≤ managers) × (managers ≤ 16) },
-    pub ghost fanout_in_range: { (2 ≤ fanout) × (fanout ≤ 8) },
+}
+
+impl Model for Plan {
+    ghost use Rattle.placement.specs.Plans.{PlanParts, IsPlan};
+
+    ghost Value = { PlanParts };
+
+    ghost view = { λ p. record { workers = p.workers; managers = p.managers; fanout = p.fanout; policy = p.policy } };
+
+    ghost invariant = { λ p. IsPlan (record { workers = p.workers; managers = p.managers; fanout = p.fanout; policy = p.policy }) };
+
+    ghost inverse = { λ p. record { workers = p.workers; managers = p.managers; fanout = p.fanout; policy = p.policy } };
 }
 
 impl Plan {
     /// The plan of a run without options: one worker, one manager, a fan-out of 2, round robin.
     pub fn single() -> Plan
-        ensures workers { result.workers ≡ 1 }
-        ensures managers { result.managers ≡ 1 }
-        ensures fanout { result.fanout ≡ 2 }
-        ensures policy { result.policy ≡ Policy.RoundRobin }
+        ensures { result ≡ record { workers = 1; managers = 1; fanout = 2; policy = policy.RoundRobin } }
     {
         Plan {
             workers: 1,

@@ -6,23 +6,21 @@ use std::rt::Env;
 /// Room for a word at the first try.
 const ROOM: usize = 256;
 
-/// The program's argument with this number, as raw bytes.
+/// The program's argument with this number, as raw bytes. One that is too long for the room is asked
+/// for again with twice the room.
 fn word<R: Env>(rt: &R, alloc: Global, number: usize) -> Result<Option<Items<u8>>, Memory> {
-    let mut bytes = vec![in alloc; 0; ROOM]?;
-    for _ in 0..u64::MAX {
+    let mut room = ROOM;
+    'rooms: loop {
+        let mut bytes = vec![in alloc; 0; room]?;
         match rt.arg(number, bytes.as_mut_slice()) {
             Ok(count) => {
                 bytes.truncate(count);
                 return Ok(Some(Items::of(bytes)));
             }
             Err(FillError::NotPresent) => return Ok(None),
-            Err(FillError::TooLong) => {
-                let room = bytes.len().saturating_mul(2);
-                bytes = vec![in alloc; 0; room]?;
-            }
+            Err(FillError::TooLong) => room = room.checked_mul(2).ok_or(Memory)?,
         }
     }
-    Err(Memory)
 }
 
 /// The command words: all arguments but the program's name. Err is want of memory.

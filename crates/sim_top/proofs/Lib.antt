@@ -1,7 +1,6 @@
 pub mod Clauses
-pub mod Distinct
-pub mod Fields
-pub mod Loops
-pub mod Series
-pub mod Trees
+pub mod Judging
+pub mod Numbers
+pub mod Pairs
+pub mod Places
 pub mod Trying

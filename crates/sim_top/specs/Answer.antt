@@ -1,21 +1,27 @@
--- What a scenario is answered with.
-use Rattle.std.specs.Prelude.{[]}
+-- What an order for a scenario is answered with.
+use Rattle.std.specs.Prelude.{List, [], ◌++◌, codes}
+use Rattle.serde_json.specs.Written.{compact_text}
 use Rattle.sim_base.specs.Endings.{status_of_ending}
 use Rattle.sim_base.specs.declared.status.Status.TheVariants as status
-use Rattle.actor_trait.specs.ClockFields.{ClockFields}
-use Rattle.actor_trait.specs.Clocks.{clock_meaning}
 use Rattle.sim_model.specs.Run.{results_of, run_of}
-use Rattle.sim_model.specs.SetupParts.{SetupParts}
 use Rattle.sim_model.specs.declared.run.Progress.{Progress}
 use Rattle.sim_model.specs.declared.run.Progress.TheVariants.{Going, Over}
-use Rattle.sim_top.specs.Text.{text_of}
+use Rattle.result_store.specs.RuleParts.{RuleParts}
+use Rattle.result_store.specs.Text.{text_of}
+use Rattle.scenario.specs.AnyActors.{any_meaning}
+use Rattle.scenario.specs.Print.{tree_for}
+use Rattle.scenario.specs.ScenarioParts.{ScenarioParts}
+use Rattle.scenario.specs.declared.any_actor.AnyActor.{AnyActor}
 use Rattle.sim_top.specs.declared.answer.Answer.{Answer}
+use Rattle.sim_top.specs.declared.words.Command.{Command}
+use Rattle.sim_top.specs.declared.words.Command.TheVariants.{Run, Check}
 
 -- every run is over after its last moment, so the first case never comes
-abbrev pub answer_to : Progress ClockFields → Answer
-answer_to (Going u) = record { text = []; status = status.NoMemory }
-answer_to (Over e) = record { text = text_of (results_of e); status = status_of_ending e.ending }
+abbrev pub run_answer : List RuleParts → Progress AnyActor → Answer
+run_answer rules (Going u) = record { text = []; status = status.NoMemory }
+run_answer rules (Over e) = record { text = text_of rules (results_of e); status = status_of_ending e.ending }
 
--- the text of the run, and the status of its ending
-unfoldable pub answer : SetupParts ClockFields → Answer
-answer s = answer_to (run_of clock_meaning s)
+-- `run`: the text of the run, and the status of its ending. `check`: the canonical text and a line end
+unfoldable pub answer : Command → ScenarioParts → Answer
+answer Run s = run_answer s.rules (run_of any_meaning s.setup)
+answer Check s = record { text = compact_text (tree_for s) ++ codes "\n"; status = status.Done }

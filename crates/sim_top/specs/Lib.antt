@@ -1,9 +1,8 @@
 pub mod Answer
+pub mod Chosen
 pub mod Clauses
-pub mod Form
 pub mod Lines
-pub mod Names
+pub mod Pieces
 pub mod Statuses
-pub mod Text
 pub mod Verdicts
 pub mod Words

@@ -1,17 +1,15 @@
-//! The call that does all: from the words and the bytes of a scenario to the bytes of its series, an
+//! The call that does all: from the words and the bytes of a scenario to the bytes of the answer, an
 //! error line and a status.
 #![tactic(auto)]
 
 mod answer;
-mod names;
-mod scenario;
-mod text;
+mod lines;
+mod options;
 mod top;
 mod verdict;
 mod words;
 
 pub use answer::Answer;
-pub use scenario::Refusal;
 pub use top::simulate;
 pub use verdict::Verdict;
-pub use words::WordsRefusal;
+pub use words::{Command, Order, WordsCause, WordsRefusal, read_words};

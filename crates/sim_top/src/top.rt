@@ -1,20 +1,20 @@
-ghost use Rattle.std.specs.Prelude.{◌≡◌, ◌≢◌, ◌≤◌, List, ℕ, Ok, Some, None, length};
-ghost use Rattle.actor_trait.specs.ClockFields.{ClockFields};
+ghost use Rattle.std.specs.Prelude.{◌≡◌, ◌≢◌, ◌≤◌, List, ℕ, Ok, Some, length};
 ghost use Rattle.sim_base.specs.Outside.{Rose};
-ghost use Rattle.sim_model.specs.SetupParts.{SetupParts};
+ghost use Rattle.scenario.specs.Format.{scenario_of};
+ghost use Rattle.scenario.specs.ScenarioParts.{ScenarioParts};
 ghost use Rattle.sim_top.specs.Clauses.{GivesAnswer, OutputFaultByCause, ScenarioRefusedExactly, TriesErrorLine, WordsRefusedFirst};
-ghost use Rattle.sim_top.specs.Form.{scenario_of};
 ghost use Rattle.sim_top.specs.Lines.{Told, Tries, line_for, status_for};
 ghost use Rattle.sim_top.specs.Statuses.{IsEnding, IsEndingOrMemory, WritesNothing};
 ghost use Rattle.sim_top.specs.Verdicts.{Judged, limit, outside};
-ghost use Rattle.sim_top.specs.Words.{words_refusal};
+ghost use Rattle.sim_top.specs.Words.{order_of};
 ghost use Rattle.sim_top.specs.declared.verdict.Verdict.{Verdict};
+ghost use Rattle.sim_top.specs.declared.words.Order.{Order};
 
 use crate::Verdict;
 use crate::answer::answer_of;
-use crate::scenario::{ScenarioFault, read_scenario};
 use crate::verdict::{status, tell};
-use crate::words::refuse_words;
+use crate::words::read_words;
+use scenario::{Scenario, ScenarioFault};
 use sim_base::{Gate, Items, ReadFault, Sink, Source, Status, read_all, write_all_of};
 use std::alloc::Global;
 use std::thread::Threads;
@@ -32,21 +32,23 @@ fn judge<S: Source, O: Sink>(
         (outside (S.left input.old) (S.faults input.old) (O.written out.old) (O.faults out.old))
         (outside (S.left input.new) (S.faults input.new) (O.written out.new) (O.faults out.new)) result }
 {
-    if let Some(refusal) = refuse_words(words) {
-        return Verdict::Words(refusal);
-    }
+    let order = match read_words(words) {
+        Ok(order) => order,
+        Err(refusal) => return Verdict::Words(refusal),
+    };
     let bytes = match read_all(alloc, input, LIMIT) {
         Ok(bytes) => bytes,
         Err(ReadFault::Fault) => return Verdict::InputFault,
         Err(ReadFault::TooLong) => return Verdict::TooLong,
         Err(ReadFault::Memory) => return Verdict::NoMemory,
     };
-    let setup = match read_scenario(alloc, bytes.as_slice()) {
-        Ok(setup) => setup,
+    let scenario = match Scenario::read(alloc, bytes.as_slice()) {
+        Ok(scenario) => scenario,
         Err(ScenarioFault::Refused(refusal)) => return Verdict::Scenario(refusal),
         Err(ScenarioFault::Memory) => return Verdict::NoMemory,
     };
-    let Ok(answer) = answer_of(alloc, &setup) else {
+    drop(bytes);
+    let Ok(answer) = answer_of(alloc, order.command, &scenario) else {
         return Verdict::NoMemory;
     };
     match write_all_of(out, answer.text.as_slice()) {
@@ -55,8 +57,9 @@ fn judge<S: Source, O: Sink>(
     }
 }
 
-/// Does what the command words say, from the bytes of the input to the bytes of the output. The
-/// command `run` reads a scenario, runs it and writes the text of the run.
+/// Does what the command words say, from the bytes of the input to the bytes of the output: `run`
+/// reads a scenario, runs it and writes the text of the run; `check` reads a scenario and writes its
+/// canonical text.
 ///
 /// The status says what the call came to, and with each but those of an ending one line is tried on
 /// `err`. The order is fixed: the words, the reading, the scenario, the run, the writing; so nothing
@@ -93,7 +96,7 @@ pub fn simulate<R: Threads + Sync, S: Source, O: Sink, E: Sink, G: Gate>(
         (outside (S.left input.new) (S.faults input.new) (O.written out.new) (O.faults out.new)) bytes written }
 
     // Status 4 comes exactly where the input is too long or is no scenario.
-    ensures scenario_refused_exactly { (bytes : List ℕ) → words_refusal words.now ≡ None
+    ensures scenario_refused_exactly { (order : Order) (bytes : List ℕ) → order_of words.now ≡ Ok order
         → result ≢ Status.InputFault → result ≢ Status.NoMemory → S.left input.old ≡ Some bytes
         → ScenarioRefusedExactly
         (outside (S.left input.old) (S.faults input.old) (O.written out.old) (O.faults out.old))
@@ -110,16 +113,16 @@ pub fn simulate<R: Threads + Sync, S: Source, O: Sink, E: Sink, G: Gate>(
     ensures nothing_written { WritesNothing result → O.written out.new ≡ O.written out.old }
 
     // With each status but an ending's its line is tried on `err`; an ending leaves `err` as it was.
-    ensures error_line { TriesErrorLine (words_refusal words.now) (S.left input.old) result
+    ensures error_line { TriesErrorLine (order_of words.now) (S.left input.old) result
         (Tries (E.written err.old) (E.written err.new) (E.faults err.old) (E.faults err.new)) }
     ensures error_sink_untouched { IsEnding result → err.new ≡ err.old }
 
     // Where nothing failed and the scenario is accepted, only want of memory keeps an ending away.
-    ensures completeness { (bytes : List ℕ) (setup : SetupParts ClockFields) → words_refusal words.now ≡ None
+    ensures completeness { (order : Order) (bytes : List ℕ) (scenario : ScenarioParts) → order_of words.now ≡ Ok order
         → (Rose (S.faults input.old) (S.faults input.new) → ⊥) → (Rose (O.faults out.old) (O.faults out.new) → ⊥)
-        → S.left input.old ≡ Some bytes → length bytes ≤ limit → scenario_of bytes ≡ Ok setup → IsEndingOrMemory result }
+        → S.left input.old ≡ Some bytes → length bytes ≤ limit → scenario_of bytes ≡ Ok scenario → IsEndingOrMemory result }
 {
     let verdict = judge(alloc, words, input, out);
-    tell(err, verdict);
-    status(verdict)
+    tell(err, &verdict);
+    status(&verdict)
 }

@@ -1,12 +1,13 @@
 ghost use Rattle.std.specs.Prelude.{◌≡◌};
-ghost use Rattle.sim_top.specs.Lines.{Told, Tries, line_for, scenario_line, status_for};
+ghost use Rattle.sim_top.specs.Lines.{Told, line_for, status_for};
 
-use crate::scenario::Refusal;
-use crate::words::{WordsRefusal, line_of_words};
-use sim_base::{Sink, Status, write_all_of};
+use crate::lines::{write, write_scenario_line, write_words_line};
+use crate::words::WordsRefusal;
+use scenario::Refusal;
+use sim_base::{Sink, Status};
 
 /// What a call came to.
-#[derive(Clone, Copy, Debug, PartialEq, Eq)]
+#[derive(Drop, PartialEq, Eq)]
 pub enum Verdict {
     /// The command ended with this status, and its whole output is written.
     Ended(Status),
@@ -24,47 +25,31 @@ pub enum Verdict {
     NoMemory,
 }
 
-fn line_of_scenario(refusal: Refusal) -> &'static [u8]
-    ensures { result.now ≡ scenario_line refusal }
-{
-    match refusal {
-        Refusal::NotJson => b"scenario: not JSON\n",
-        Refusal::WrongType => b"scenario: wrong type scenario\n",
-    }
-}
-
 /// The status of a verdict.
-pub(crate) fn status(verdict: Verdict) -> Status
-    ensures { result ≡ status_for verdict }
+pub(crate) fn status(verdict: &Verdict) -> Status
+    ensures { result ≡ status_for verdict.now }
 {
     match verdict {
-        Verdict::Ended(status) => status,
+        Verdict::Ended(status) => *status,
         Verdict::Words(_) => Status::WordsRefused,
-        Verdict::Scenario(_) => Status::ScenarioRefused,
-        Verdict::TooLong => Status::ScenarioRefused,
+        Verdict::Scenario(_) | Verdict::TooLong => Status::ScenarioRefused,
         Verdict::InputFault => Status::InputFault,
         Verdict::OutputFault => Status::OutputFault,
         Verdict::NoMemory => Status::NoMemory,
     }
 }
 
-fn try_line<E: Sink>(err: &mut E, line: &[u8])
-    ensures { Tries (E.written err.old) (E.written err.new) (E.faults err.old) (E.faults err.new) line.now }
-{
-    let _ = write_all_of(err, line);
-}
-
 /// Tries the line of a verdict; a command that ended has none. A failing sink changes nothing.
-pub(crate) fn tell<E: Sink>(err: &mut E, verdict: Verdict)
-    ensures { Told E.written E.faults err.old err.new (line_for verdict) }
+pub(crate) fn tell<E: Sink>(err: &mut E, verdict: &Verdict)
+    ensures { Told E.written E.faults err.old err.new (line_for verdict.now) }
 {
-    match verdict {
-        Verdict::Ended(_) => {}
-        Verdict::Words(refusal) => try_line(err, line_of_words(refusal)),
-        Verdict::Scenario(refusal) => try_line(err, line_of_scenario(refusal)),
-        Verdict::TooLong => try_line(err, b"scenario: too long\n"),
-        Verdict::InputFault => try_line(err, b"input fault\n"),
-        Verdict::OutputFault => try_line(err, b"output fault\n"),
-        Verdict::NoMemory => try_line(err, b"no memory\n"),
-    }
+    let _ = match verdict {
+        Verdict::Ended(_) => Ok(()),
+        Verdict::Words(refusal) => write_words_line(err, *refusal),
+        Verdict::Scenario(refusal) => write_scenario_line(err, refusal),
+        Verdict::TooLong => write(err, b"scenario: too long\n"),
+        Verdict::InputFault => write(err, b"input fault\n"),
+        Verdict::OutputFault => write(err, b"output fault\n"),
+        Verdict::NoMemory => write(err, b"no memory\n"),
+    };
 }

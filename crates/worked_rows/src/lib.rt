@@ -9,6 +9,8 @@ mod kind_tests;
 mod plain_run_tests;
 mod puppet;
 #[cfg(test)]
-mod tests;
+mod rows;
+#[cfg(test)]
+mod simulate_tests;
 
 pub use puppet::{LISTENER, Puppet};

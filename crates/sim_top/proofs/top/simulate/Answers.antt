@@ -12,10 +12,10 @@ returns g c =
       input_fault_by_its_cause = rw c.status.ensures (input_fault words _ _ v judged);
       output_fault_rose = rw c.status.ensures (output_fault_rose words _ _ v judged);
       output_fault_by_its_cause = rw c.status.ensures (λ bytes written. output_fault words _ _ v bytes written judged);
-      scenario_refused_exactly = rw c.status.ensures (λ bytes. scenario_refused words _ _ v bytes judged);
+      scenario_refused_exactly = rw c.status.ensures (λ o bytes. scenario_refused words _ _ v o bytes judged);
       the_answer = rw c.status.ensures (λ bytes written. the_answer words _ _ v bytes written judged);
       nothing_written = rw c.status.ensures (nothing_written words _ _ v judged);
       error_line = rw c.status.ensures (error_line g.E.Sink.written g.E.Sink.faults _ _ words _ _ v judged c.tell.ensures);
       error_sink_untouched = rw c.status.ensures (untouched g.E.Sink.written g.E.Sink.faults _ _ v c.tell.ensures);
-      completeness = rw c.status.ensures (λ bytes s. completes words _ _ v bytes s judged);
+      completeness = rw c.status.ensures (λ o bytes s. completes words _ _ v o bytes s judged);
     }

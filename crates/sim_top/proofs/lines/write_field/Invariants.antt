@@ -1,0 +1,9 @@
+use Rattle.std.proofs.Common.{◌≡◌, length, map, take}
+use Rattle.sim_top.specs.Lines.{shown}
+use Rattle.sim_top.proofs.lines.write_field.Given as goal
+
+abbrev pub invariant-loop-at : goal.invariant-loop-at
+invariant-loop-at g l = record {
+  len : length l.text ≡ 64;
+  so_far : take l.at l.text ≡ map shown (take l.at l.bytes);
+}

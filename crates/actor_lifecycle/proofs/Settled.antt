@@ -6,12 +6,12 @@ use Rattle.sim_base.specs.declared.ids.ActorId.{ActorId}
 use Rattle.sim_base.specs.declared.moment.Moment.{Moment}
 use Rattle.actor_trait.specs.Meaning.{Meaning}
 use Rattle.actor_trait.specs.declared.letter.Letter.{Letter}
-use Rattle.sim_model.specs.Births.{birth_letter, births_of_moment}
+use Rattle.sim_model.specs.Births.{birth_letter, births_of_moment, without_births}
 use Rattle.sim_model.specs.Moment.{fault_of_moment}
 use Rattle.sim_model.specs.declared.births.Newborn.{Newborn}
 use Rattle.sim_model.specs.declared.report.Report.{Report}
 use Rattle.sim_model.specs.declared.settled.Settled.TheVariants as becomes
-use Rattle.actor_lifecycle.specs.Settling.{settled, without_births}
+use Rattle.actor_lifecycle.specs.Settling.{settled}
 use Rattle.actor_lifecycle.proofs.Retiring.{retire_as_told}
 
 -- where nobody shows a fault

@@ -1,17 +1,13 @@
 -- What becomes of the reports of a moment: the first fault, or the births, the birth letters and those who retire.
-use Rattle.std.specs.Prelude.{ℕ, List, [], map, Option, Some, None}
+use Rattle.std.specs.Prelude.{ℕ, List, map, Option, Some, None}
 use Rattle.sim_base.specs.declared.moment.Moment.{Moment}
 use Rattle.actor_trait.specs.Meaning.{Meaning}
-use Rattle.sim_model.specs.Births.{birth_letter, births_of_moment}
+use Rattle.sim_model.specs.Births.{birth_letter, births_of_moment, without_births}
 use Rattle.sim_model.specs.Moment.{fault_of_moment, retired}
 use Rattle.sim_model.specs.declared.report.Fault.{Fault}
 use Rattle.sim_model.specs.declared.report.Report.{Report}
 use Rattle.sim_model.specs.declared.settled.Settled.{Settled}
 use Rattle.sim_model.specs.declared.settled.Settled.TheVariants as becomes
-
--- the report of an actor once its newborn are taken out
-abbrev pub without_births : {A : Type 0} → Report A → Report A
-without_births r = record r { outcome = record r.outcome { births = [] } }
 
 -- a fault, or else what the moment brings
 abbrev pub settled_by : {A : Type 0} → Meaning A → ℕ → List (Report A) → Option Fault → Settled A

@@ -2,8 +2,6 @@
 //! the letters that tell of them, and those who leave.
 #![tactic(auto)]
 
-mod births;
-mod faults;
 mod settling;
 #[cfg(test)]
 mod tests;

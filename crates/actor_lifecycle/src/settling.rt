@@ -1,13 +1,12 @@
 ghost use Rattle.std.specs.Prelude.{◌≡◌, ◌+◌, ◌≤◌, map, IfOk};
 ghost use Rattle.std.specs.List.{filter};
 ghost use Rattle.std.specs.List.Sorted.{IsStrictlyIncreasing};
+ghost use Rattle.sim_model.specs.Births.{birth_letter};
 ghost use Rattle.actor_lifecycle.specs.Settling.{settled};
 
-use crate::births::{bear_all, tell_creators};
-use crate::faults::count_births;
-use actor_trait::Actor;
+use actor_trait::{Actor, Letter};
 use sim_base::{ActorId, Items, Memory, Moment};
-use sim_model::{Fault, Report, Settled};
+use sim_model::{Fault, Newborn, Report, Settled, add_birth_letters, bear_all, count_births};
 use std::alloc::{AllocError, Global};
 
 /// Those who retire, in the order of their reports.
@@ -19,6 +18,15 @@ fn retiring<A>(alloc: Global, reports: &[Report<A>]) -> Result<Vec<ActorId>, All
         .filter(|report| report.outcome.retire)
         .map(|report| report.id)
         .collect(alloc)
+}
+
+/// The letters that tell creators of births.
+fn tell_creators<A>(alloc: Global, born: &[Newborn<A>]) -> Result<Vec<Letter>, Memory>
+    ensures { IfOk result (λ letters. letters.items ≡ map birth_letter born.now) }
+{
+    let mut letters = Vec::with_capacity(alloc, born.len())?;
+    add_birth_letters(&mut letters, born)?;
+    Ok(letters)
 }
 
 /// What becomes of the reports of a moment, one of each actor that acted. The first newborn gets the

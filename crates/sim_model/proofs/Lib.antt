@@ -1,7 +1,9 @@
 pub mod Among
+pub mod Bearing
 pub mod Called
 pub mod Calm
 pub mod Closed
+pub mod Counting
 pub mod Forward
 pub mod Lists
 pub mod Numbers

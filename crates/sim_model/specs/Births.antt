@@ -35,5 +35,9 @@ bears_past last next r = nat_lt 0 (length r.outcome.births) && nat_lt (last + 1)
 abbrev pub birth_letter : {A : Type 0} → Newborn A → Letter
 birth_letter b = record { to = b.creator; from = record { 0 = 0 }; serial = b.index; payload = record { code = 0; a = pos b.index; b = pos b.id.0 } }
 
+-- the report of an actor once its newborn are taken out
+abbrev pub without_births : {A : Type 0} → Report A → Report A
+without_births r = record r { outcome = record r.outcome { births = [] } }
+
 abbrev pub member_born : {A : Type 0} → Meaning A → Newborn A → Member
 member_born m b = record { id = b.id; name = b.name; kind = m.kind b.state; probes = m.probes b.state }

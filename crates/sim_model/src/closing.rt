@@ -1,7 +1,7 @@
-ghost use Rattle.std.specs.Prelude.{◌≡◌, ◌++◌, ◌+◌, ◌-◌, ◌<◌, ◌≤◌, ◌^◌, [], min, map, length, Some, IfOk, OnOk};
+ghost use Rattle.std.specs.Prelude.{◌≡◌, ◌++◌, ◌+◌, ◌-◌, ◌≤◌, ◌^◌, [], min, map, length, Some, IfOk, OnOk};
 ghost use Rattle.std.specs.List.{All, filter, flat_map, fold};
 ghost use Rattle.sim_model.specs.Births.{next_after};
-ghost use Rattle.sim_model.specs.Moment.{agenda_after, ask_of, close, dead_among, is_alive, letters_of, next_id, noted, put_state, retired, rows_of, states_after};
+ghost use Rattle.sim_model.specs.Moment.{agenda_after, ask_of, close, close_with, dead_among, is_alive, letters_of, next_id, noted, put_state, retired, rows_of, states_after};
 ghost use Rattle.sim_model.specs.Agendas.{ask};
 
 use crate::births::{add_birth_letters, add_members, bear_all};
@@ -103,10 +103,10 @@ fn put_in<A: Drop>(states: &mut [Option<A>], report: Report<A>)
     }
 }
 
-fn put_all<A: Drop>(states: &mut Vec<Option<A>>, reports: Items<Report<A>>)
-    ensures { states.new.items ≡ fold put_state states.old.items reports }
+fn put_all<A: Drop>(states: &mut Vec<Option<A>>, reports: Vec<Report<A>>)
+    ensures { states.new.items ≡ fold put_state states.old.items reports.items }
 {
-    for report in reports.into_vec() {
+    for report in reports {
         put_in(states, report);
     }
 }
@@ -122,10 +122,10 @@ fn add_newborn<A: Drop>(states: &mut Vec<Option<A>>, born: Vec<Newborn<A>>) -> R
 
 fn close_states<A: Drop>(
     states: Items<Option<A>>,
-    reports: Items<Report<A>>,
+    reports: Vec<Report<A>>,
     born: Vec<Newborn<A>>,
 ) -> Result<Items<Option<A>>, Memory>
-    ensures { IfOk result (λ all. all ≡ states_after states reports born.items) }
+    ensures { IfOk result (λ all. all ≡ states_after states reports.items born.items) }
 {
     let mut all = states.into_vec();
     put_all(&mut all, reports);
@@ -185,16 +185,15 @@ fn deliver<A: Drop>(
     })
 }
 
-/// The world after a moment at which nobody shows a fault.
-pub(crate) fn close_all<A: Actor + Drop>(
+/// The world after a moment whose newborn were taken out of its reports.
+fn close_kept<A: Actor + Drop>(
     alloc: Global,
     world: World<A>,
-    reports: Items<Report<A>>,
+    kept: Vec<Report<A>>,
+    born: Vec<Newborn<A>>,
 ) -> Result<World<A>, Memory>
-    requires sends { All (λ r. length r.outcome.sends ≤ 1024) reports }
-    requires numbers { next_after (next_id world) reports < 2 ^ 32 }
-    requires next { next_id world < 2 ^ 32 }
-    ensures { IfOk result (λ closed. closed ≡ close A.meaning world reports) }
+    requires { All (λ r. length r.outcome.sends ≤ 1024) kept.items }
+    ensures { IfOk result (λ closed. closed ≡ close_with A.meaning world kept.items born.items) }
 {
     let World {
         states,
@@ -205,14 +204,12 @@ pub(crate) fn close_all<A: Actor + Drop>(
         cast,
         dead_letters,
     } = world;
-    let next = states.len() as u32 + 1;
-    let born = bear_all(alloc, next, reports.as_slice())?;
-    let letters = letters_after(alloc, reports.as_slice(), &born)?;
-    close_agenda(alloc, &mut agenda, reports.as_slice())?;
+    let letters = letters_after(alloc, &kept, &born)?;
+    close_agenda(alloc, &mut agenda, &kept)?;
     let newborn = ids_of(alloc, &born)?;
     let mut cast = cast.into_vec();
     add_members(alloc, &mut cast, &born)?;
-    let states = close_states(states, reports, born)?;
+    let states = close_states(states, kept, born)?;
     deliver(
         alloc,
         states,
@@ -222,4 +219,23 @@ pub(crate) fn close_all<A: Actor + Drop>(
         dead_letters,
         letters.as_slice(),
     )
+}
+
+/// The world after a moment at which nobody shows a fault and `count` are born, the first of whom has the
+/// number `next`.
+pub(crate) fn close_all<A: Actor + Drop>(
+    alloc: Global,
+    world: World<A>,
+    reports: Items<Report<A>>,
+    next: u32,
+    count: usize,
+) -> Result<World<A>, Memory>
+    requires sends { All (λ r. length r.outcome.sends ≤ 1024) reports }
+    requires next { next ≡ next_id world }
+    requires numbers { next_after next reports ≤ 2 ^ 32 }
+    ensures { IfOk result (λ closed. closed ≡ close A.meaning world reports) }
+{
+    let mut kept = reports.into_vec();
+    let born = bear_all(alloc, &mut kept, next, count)?;
+    close_kept(alloc, world, kept, born)
 }

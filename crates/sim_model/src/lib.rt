@@ -18,7 +18,7 @@ mod tests;
 mod world;
 
 pub use agenda::{Agenda, Due};
-pub use births::{Newborn, add_birth_letters};
+pub use births::{Newborn, add_birth_letters, bear_all, count_births};
 pub use cast::Member;
 pub use next::Next;
 pub use report::{Fault, Report};

@@ -1,4 +1,4 @@
-ghost use Rattle.std.specs.Prelude.{◌≡◌, ◌+◌, ◌-◌, ◌<◌, ◌≤◌, ◌^◌, ◌++◌, [], ◌||◌, if◌then◌else◌, length, IfOk, OnOk};
+ghost use Rattle.std.specs.Prelude.{◌≡◌, ◌+◌, ◌<◌, ◌^◌, ◌++◌, [], ◌||◌, if◌then◌else◌, length, IfOk, OnOk};
 ghost use Rattle.std.specs.BTreeSet.{insert_key};
 ghost use Rattle.std.specs.List.{cons_option, fold};
 ghost use Rattle.std.specs.Option.{option_map};
@@ -6,11 +6,11 @@ ghost use Rattle.sim_base.specs.declared.ids.ActorId.{ActorId};
 ghost use Rattle.actor_trait.specs.Seen.{seen};
 ghost use Rattle.inbox_order.specs.Inboxes.{inbox_of};
 ghost use Rattle.sim_model.specs.Agendas.{Rises, due, without};
-ghost use Rattle.sim_model.specs.Moment.{actor_cmp, called, enter, fault_of_moment, in_order_once, inbox_at, is_among, is_occupied, is_opening, is_spontaneous, living_from, report_of, reports, state_of, what_comes_next};
+ghost use Rattle.sim_model.specs.Moment.{actor_cmp, called, enter, in_order_once, inbox_at, is_among, is_occupied, is_opening, is_spontaneous, living_from, report_of, reports, state_of, what_comes_next};
 
 use crate::letters::find;
-use crate::{Agenda, Fault, Next, Report, Setup, World};
-use actor_trait::{Actor, Context, Event, Letter, Outcome, fault_among};
+use crate::{Agenda, Next, Report, Setup, World};
+use actor_trait::{Actor, Context, Event, Letter, Outcome};
 use inbox_order::Inboxes;
 use sim_base::{ActorId, Ending, Items, Memory, Moment};
 use std::alloc::{AllocError, Global};
@@ -231,33 +231,6 @@ pub(crate) fn report_all<A: Actor + Drop>(
         push_some(&mut all, found)?;
     }
     Ok(Items::of(all))
-}
-
-/// The first fault that is shown, where the next newborn has the number `first`, and no actor one past
-/// `last`.
-pub(crate) fn first_fault<A: Actor>(
-    reports: &[Report<A>],
-    last: u32,
-    first: u32,
-    at: Moment,
-) -> Option<Fault>
-    requires last { last < 2 ^ 32 - 1 }
-    requires first { first ≤ last + 1 }
-    ensures { result ≡ fault_of_moment A.meaning last first at reports.now }
-{
-    let mut next = first;
-    for report in reports {
-        let births = report.outcome.births.len();
-        let room = (last + 1 - next) as usize;
-        if let Some(code) = fault_among(&report.outcome, at, room < births) {
-            return Some(Fault {
-                actor: report.id,
-                code,
-            });
-        }
-        next += births.min(room) as u32;
-    }
-    None
 }
 
 /// Whether somebody is called at the next diasca.

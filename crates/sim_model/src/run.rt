@@ -1,12 +1,13 @@
-ghost use Rattle.std.specs.Prelude.{◌≡◌, ◌+◌, ◌<◌, ◌≤◌, length, map, IfOk, Some};
+ghost use Rattle.std.specs.Prelude.{◌≡◌, ◌<◌, ◌≤◌, length, map, IfOk, Some};
 ghost use Rattle.sim_model.specs.Agendas.{Rises};
 ghost use Rattle.sim_model.specs.Moment.{fault_of_moment, next_id};
 ghost use Rattle.sim_model.specs.Run.{IsRun, RunEnds, follow, judge, results_of, start, step};
 
+use crate::births::count_births;
 use crate::cast::opening_cast;
 use crate::closing::{add_rows, close_all};
-use crate::moment::{enter_at, first_fault, report_all, what_next};
-use crate::{Agenda, Member, Next, Report, Setup, Start, World};
+use crate::moment::{enter_at, report_all, what_next};
+use crate::{Agenda, Fault, Member, Next, Report, Setup, Start, World};
 use actor_trait::Actor;
 use sim_base::{Ending, Items, Memory, Moment, Row};
 use std::alloc::Global;
@@ -111,15 +112,15 @@ fn judge_all<A: Actor + Drop>(
 {
     let last = setup.max_actors;
     let first = entered.states.len() as u32 + 1;
-    if let Some(fault) = first_fault(reports.as_slice(), last, first, at) {
-        let ending = Ending::Fault {
-            actor: fault.actor,
-            code: fault.code,
-        };
-        return Ok(follow_on(at, entered, rows, Next::Ends(ending)));
-    }
+    let count = match count_births(reports.as_slice(), last, first, at) {
+        Ok(count) => count,
+        Err(Fault { actor, code }) => {
+            let ending = Ending::Fault { actor, code };
+            return Ok(follow_on(at, entered, rows, Next::Ends(ending)));
+        }
+    };
     let rows = add_rows(rows, at, reports.as_slice())?;
-    let closed = close_all(alloc, entered, reports)?;
+    let closed = close_all(alloc, entered, reports, first, count)?;
     let next = what_next(setup, at, &closed);
     Ok(follow_on(at, closed, rows, next))
 }

@@ -1,13 +1,20 @@
-use Rattle.std.proofs.Common.{◌≡◌, ◌∙◌, IfOk, subst}
-use Rattle.sim_model.proofs.Closed.{closed}
+use Rattle.std.proofs.Common.{◌≡◌, ◌∙◌, IfOk, ap, length, subst, sym}
+use Rattle.sim_model.specs.Births.{without_births}
+use Rattle.sim_model.proofs.Closed.{closed_kept, sends_kept}
+use Rattle.sim_model.proofs.Lists.{mapped_over}
 use Rattle.sim_model.proofs.closing.close_all.Goals as goal
+
+pub close_kept-requires : goal.close_kept-requires
+close_kept-requires g c =
+    let kept = rw c.deref_mut.ensures.value at c.in_ok-born.ensures.kept in
+    let count = ap (λ l. length l) (sym c.deref_mut.ensures.value) ∙ c.deref_mut.ensures.len in
+    let emptied = mapped_over without_births c.bear_all.new.reports c.into_vec-kept.result.items c.args.reports _ kept count c.into_vec-kept.ensures in
+    sends_kept c.args.reports _ emptied c.requires.sends
 
 pub returns : goal.returns
 returns g c =
-    let are = rw (c.as_slice.ensures, c.len.ensures) at c.in_ok-born.ensures in
-    let after = c.in_ok-states.ensures in
-    let sent = c.as_slice-4.ensures.value ∙ rw (c.as_slice-2.ensures, c.deref.ensures.value) at c.in_ok-letters.ensures in
-    let due = rw c.as_slice-3.ensures at c.in_ok-close_agenda.ensures in
-    let named = rw c.deref-2.ensures.value at c.in_ok-newborn.ensures in
-    let known = rw (c.into_vec-cast.ensures, c.deref-3.ensures.value) at c.in_ok-add_members.ensures in
-    subst (λ w. IfOk c.deliver.result (λ closed. closed ≡ w)) (closed g.A.Actor.meaning c.args.world c.args.reports _ _ _ _ _ _ are after due sent named known) c.deliver.ensures
+    let born = rw (c.deref_mut.ensures.value, c.into_vec-kept.ensures) at c.in_ok-born.ensures.born in
+    let kept = rw c.deref_mut.ensures.value at c.in_ok-born.ensures.kept in
+    let count = ap (λ l. length l) (sym c.deref_mut.ensures.value) ∙ c.deref_mut.ensures.len in
+    let emptied = mapped_over without_births c.bear_all.new.reports c.into_vec-kept.result.items c.args.reports _ kept count c.into_vec-kept.ensures in
+    subst (λ w. IfOk c.close_kept.result (λ closed. closed ≡ w)) (closed_kept g.A.Actor.meaning c.args.world c.args.reports _ _ c.args.next emptied born c.requires.next) c.close_kept.ensures

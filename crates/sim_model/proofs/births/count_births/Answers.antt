@@ -1,6 +1,6 @@
 use Rattle.std.proofs.Common.{◌∙◌, sym, arith}
-use Rattle.actor_lifecycle.proofs.Counting.{passes}
-use Rattle.actor_lifecycle.proofs.faults.count_births.Goals as goal
+use Rattle.sim_model.proofs.Counting.{passes}
+use Rattle.sim_model.proofs.births.count_births.Goals as goal
 
 pub loop-report-preserved : goal.loop-report-preserved
 loop-report-preserved g c =

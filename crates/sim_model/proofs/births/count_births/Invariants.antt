@@ -1,7 +1,7 @@
 use Rattle.std.proofs.Common.{◌≡◌, ◌+◌, ◌-◌, ◌≤◌, drop}
 use Rattle.sim_model.specs.Births.{next_after}
 use Rattle.sim_model.specs.Moment.{fault_of_moment}
-use Rattle.actor_lifecycle.proofs.faults.count_births.Given as goal
+use Rattle.sim_model.proofs.births.count_births.Given as goal
 
 abbrev pub invariant-loop-report : goal.invariant-loop-report
 invariant-loop-report g l =

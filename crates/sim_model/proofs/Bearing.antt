@@ -7,7 +7,7 @@ use Rattle.sim_model.specs.Births.{births_from, births_of_moment, newborn, next_
 use Rattle.sim_model.specs.declared.births.Newborn.{Newborn}
 use Rattle.sim_model.specs.declared.report.Report.{Report}
 use Rattle.sim_model.proofs.Numbers.{item_fits}
-use Rattle.actor_lifecycle.proofs.Lists.{drop_item}
+use Rattle.sim_model.proofs.Lists.{drop_item}
 
 pub births_from-push : {A : Type 0} (m : Meaning A) (creator : ActorId) (index id : ℕ) (states : List A) (state : A)
     → births_from m creator index id (states ++ state ∷ []) ≡ births_from m creator index id states ++ newborn m creator (index + length states) (id + length states) state ∷ []

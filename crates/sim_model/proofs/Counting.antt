@@ -9,7 +9,7 @@ use Rattle.sim_model.specs.Moment.{fault_of_moment}
 use Rattle.sim_model.specs.declared.report.Report.{Report}
 use Rattle.sim_model.proofs.Calm.{calm}
 use Rattle.sim_model.proofs.Numbers.{past_room}
-use Rattle.actor_lifecycle.proofs.Lists.{drop_item}
+use Rattle.sim_model.proofs.Lists.{drop_item}
 
 -- whether a report bears past the last number is told by the room that is left
 pub bears_past-room : {A : Type 0} (last room : ℕ) (r : Report A) → room ≤ last + 1

@@ -1,7 +1,7 @@
 ghost use Rattle.std.specs.Prelude.{◌≡◌, ◌≤◌, length, option_map};
 ghost use Rattle.std.specs.List.{list_all};
 ghost use Rattle.result_store.specs.Patterns.{series_name};
-ghost use Rattle.result_store.specs.Rules.{Gives, decision, is_pattern, is_pattern_byte, keeps, rule_of, rules_of, sign_of};
+ghost use Rattle.result_store.specs.Rules.{Gives, is_pattern, is_pattern_byte, keeps, rule_of, rules_of, sign_of};
 
 use crate::pattern::{SeriesName, matches};
 use sim_base::{Items, Name};

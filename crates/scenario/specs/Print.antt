@@ -1,7 +1,8 @@
--- The tree that a scenario is printed as, its keys in the order of their bytes.
+-- What a scenario is printed as: the compact text of a tree whose keys are in the order of their bytes.
 use Rattle.std.specs.Prelude.{ℕ, ◌-◌, List, [], ◌∷◌, map, slice_index_or, codes}
 use Rattle.serde_json.specs.Data.{Data, number, unsigned, string, array, object, Items, no_items, item, member, no_members}
 use Rattle.serde_json.specs.Find.{of_integer}
+use Rattle.serde_json.specs.Written.{compact_text}
 use Rattle.actor_trait.specs.ClockFields.{ClockFields}
 use Rattle.actor_trait.specs.BallFields.{BallFields}
 use Rattle.actor_trait.specs.FuseFields.{FuseFields}
@@ -115,3 +116,6 @@ tree_for p = object (
     member (codes "max_actors") (number (unsigned p.setup.max_actors)) (
     member (codes "results") (array (text_trees p.texts)) (
     member (codes "seed") (number (unsigned p.setup.seed)) no_members)))))))
+
+abbrev pub canonical_text : ScenarioParts → List ℕ
+canonical_text p = compact_text (tree_for p)

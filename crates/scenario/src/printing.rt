@@ -1,7 +1,6 @@
 //! The tree that a scenario is printed as.
 ghost use Rattle.std.specs.Prelude.{◌≡◌, map, length, true, IfOk, codes};
 ghost use Rattle.std.specs.List.{list_all};
-ghost use Rattle.result_store.specs.Rules.{rules_of};
 ghost use Rattle.serde_json.specs.Data.{array, member, no_members, number, object, string, unsigned};
 ghost use Rattle.serde_json.specs.View.{items_view, view};
 ghost use Rattle.sim_base.specs.Names.{is_name};

@@ -1,10 +1,9 @@
 ghost use Rattle.std.specs.Prelude.{◌≡◌, ◌≤◌, codes, length, IfOk, Ok};
 ghost use Rattle.serde_json.specs.Find.{get};
 ghost use Rattle.serde_json.specs.View.{view, items_view};
-ghost use Rattle.serde_json.specs.Written.{compact_text};
 ghost use Rattle.scenario.specs.Answers.{Gives, ok_map};
 ghost use Rattle.scenario.specs.Format.{is_object, items_in, limits_of, scenario_in, scenario_of};
-ghost use Rattle.scenario.specs.Print.{tree_for};
+ghost use Rattle.scenario.specs.Print.{canonical_text};
 
 use crate::drafts::read_actors;
 use crate::fields::{MOST, Owner, no_unknown, number_at, number_or, place};
@@ -142,7 +141,7 @@ impl Scenario {
     /// The canonical text: one JSON object with all seven fields and no blanks, the keys in byte
     /// order, actors named by their names. It is read to an equal scenario. Err is want of memory.
     pub fn print(&self, alloc: Global) -> Result<Items<u8>, Memory>
-        ensures text { IfOk result (λ t. t ≡ compact_text (tree_for self.now)) }
+        ensures text { IfOk result (λ t. t ≡ canonical_text self.now) }
         ensures read_again { IfOk result (λ t. scenario_of t ≡ Ok self.now) }
     {
         let tree = tree_value(alloc, self)?;

@@ -12,7 +12,7 @@ use Rattle.sim_top.specs.Answer.{answer}
 use Rattle.sim_top.specs.Clauses.{GivesAnswer, OutputFaultByCause, ScenarioRefusedExactly, TriesErrorLine, WordsRefusedFirst}
 use Rattle.sim_top.specs.Lines.{Told, Tries, line_for, status_for, words_line}
 use Rattle.sim_top.specs.Statuses.{IsEnding, IsEndingOrMemory, WritesNothing}
-use Rattle.sim_top.specs.Verdicts.{AreWords, HasRead, IsAccepted, Judged, Outside, limit}
+use Rattle.sim_top.specs.Verdicts.{HasRead, IsAccepted, Judged, Outside, limit}
 use Rattle.sim_top.specs.Words.{order_of}
 use Rattle.sim_top.specs.declared.words.Order.{Order}
 use Rattle.sim_top.specs.declared.words.WordsRefusal.{WordsRefusal}

@@ -1,5 +1,5 @@
 -- What a call came to that wrote an answer, or a front of it.
-use Rattle.std.proofs.Common.{◌≡◌, ℕ, ◌≤◌, List, length, take, Ok, ap}
+use Rattle.std.proofs.Common.{◌≡◌, ℕ, ◌≤◌, List, length, Ok, ap}
 use Rattle.std.specs.Io.KnownBytes.{Appends, Consumes, IsAtEnd}
 use Rattle.sim_base.specs.Outside.{PutsFront, Rose}
 use Rattle.scenario.specs.Format.{scenario_of}

@@ -1,6 +1,5 @@
 -- What an order for a scenario is answered with.
 use Rattle.std.specs.Prelude.{List, [], ◌++◌, codes}
-use Rattle.serde_json.specs.Written.{compact_text}
 use Rattle.sim_base.specs.Endings.{status_of_ending}
 use Rattle.sim_base.specs.declared.status.Status.TheVariants as status
 use Rattle.sim_model.specs.Run.{results_of, run_of}
@@ -9,7 +8,7 @@ use Rattle.sim_model.specs.declared.run.Progress.TheVariants.{Going, Over}
 use Rattle.result_store.specs.RuleParts.{RuleParts}
 use Rattle.result_store.specs.Text.{text_of}
 use Rattle.scenario.specs.AnyActors.{any_meaning}
-use Rattle.scenario.specs.Print.{tree_for}
+use Rattle.scenario.specs.Print.{canonical_text}
 use Rattle.scenario.specs.ScenarioParts.{ScenarioParts}
 use Rattle.scenario.specs.declared.any_actor.AnyActor.{AnyActor}
 use Rattle.sim_top.specs.declared.answer.Answer.{Answer}
@@ -24,4 +23,4 @@ run_answer rules (Over e) = record { text = text_of rules (results_of e); status
 -- `run`: the text of the run, and the status of its ending. `check`: the canonical text and a line end
 unfoldable pub answer : Command → ScenarioParts → Answer
 answer Run s = run_answer s.rules (run_of any_meaning s.setup)
-answer Check s = record { text = compact_text (tree_for s) ++ codes "\n"; status = status.Done }
+answer Check s = record { text = canonical_text s ++ codes "\n"; status = status.Done }

@@ -1,4 +1,4 @@
-use Rattle.std.proofs.Common.{◌≡◌, ◌==◌, ◌++◌, ◌∙◌, sym, codes, length, map, true, false}
+use Rattle.std.proofs.Common.{◌≡◌, ◌==◌, ◌∙◌, sym, codes, length, map, true, false}
 use Rattle.std.proofs.lemmas.Result.{err_from_is_err_and}
 use Rattle.sim_top.specs.Lines.{shown}
 use Rattle.sim_top.proofs.Places.{no_field, some_field}

@@ -1,4 +1,4 @@
-use Rattle.std.proofs.Common.{◌≡◌, ◌++◌, map}
+use Rattle.std.proofs.Common.{map}
 use Rattle.sim_top.specs.Lines.{actor_text, shown}
 use Rattle.sim_top.proofs.Places.{of_actor, of_whole}
 use Rattle.sim_top.proofs.Trying.{writes_more}

@@ -1,4 +1,3 @@
-use Rattle.std.proofs.Common.{◌≡◌}
 use Rattle.sim_top.proofs.Trying.{writes_more}
 use Rattle.sim_top.proofs.lines.write_numbered.Goals as goal
 

@@ -1,4 +1,3 @@
-use Rattle.std.proofs.Common.{◌≡◌}
 use Rattle.sim_top.proofs.lines.write_refusal.Goals as goal
 
 pub returns-in-BadName : goal.returns-in-BadName

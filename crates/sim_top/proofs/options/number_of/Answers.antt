@@ -1,4 +1,4 @@
-use Rattle.std.proofs.Common.{◌≡◌, ◌∙◌, ap, sym, true, refl}
+use Rattle.std.proofs.Common.{◌≡◌, ◌∙◌, ap, sym, true}
 use Rattle.std.specs.Result.{result_ok}
 use Rattle.sim_top.proofs.Numbers.{digits_utf8, number_parts, parsed}
 use Rattle.sim_top.specs.Words.{is_number, number_of}

@@ -1,4 +1,4 @@
-use Rattle.std.proofs.Common.{◌≡◌, sym}
+use Rattle.std.proofs.Common.{sym}
 use Rattle.sim_top.proofs.Judging.{broken, ended}
 use Rattle.sim_top.proofs.top.judge.Goals as goal
 

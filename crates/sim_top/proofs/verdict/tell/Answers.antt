@@ -1,4 +1,4 @@
-use Rattle.std.proofs.Common.{◌≡◌, codes}
+use Rattle.std.proofs.Common.{codes}
 use Rattle.sim_top.specs.Lines.{scenario_line, words_line}
 use Rattle.sim_top.proofs.Trying.{tried}
 use Rattle.sim_top.proofs.verdict.tell.Goals as goal

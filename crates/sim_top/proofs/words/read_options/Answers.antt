@@ -1,4 +1,4 @@
-use Rattle.std.proofs.Common.{◌≡◌, ◌+◌, ◌<◌, ◌≤◌, ◌∙◌, ap, sym, drop, length, get_or, arith}
+use Rattle.std.proofs.Common.{◌≡◌, ◌+◌, ◌∙◌, ap, sym, drop, arith}
 use Rattle.sim_top.specs.Words.{options_from}
 use Rattle.sim_top.proofs.Pairs.{options_more}
 use Rattle.sim_top.proofs.words.read_options.Goals as goal

@@ -1,5 +1,5 @@
 -- The sources and sinks in memory.
-use Rattle.std.specs.Prelude.{ℕ, ◌+◌, ◌-◌, ◌^◌, ◌==◌, min, Bool, ◌||◌, List, length, if◌then◌else◌}
+use Rattle.std.specs.Prelude.{ℕ, ◌+◌, ◌-◌, ◌^◌, ◌==◌, min, Bool, ◌||◌, List, length, Option, if◌then◌else◌}
 use Rattle.std.specs.List.{list_any}
 use Rattle.sim_base.specs.declared.source.Taken.{Taken}
 use Rattle.sim_base.specs.declared.source.Taken.TheVariants as taken
@@ -52,3 +52,13 @@ pub record Hold : Type 0 where
 abbrev pub put_of : Hold → ℕ → Put
 put_of h piece =
     if fails_next h.calls || (h.room == length h.bytes) then put.Failed else put.Bytes (min (min (h.room - length h.bytes) h.cut) piece)
+
+-- a reader as a source: the bytes that it has left, where it tells them, and how often it has failed
+pub record Inflow : Type 0 where
+  pub left : Option (List ℕ)
+  pub faults : ℕ
+
+-- a writer as a sink: the bytes that it holds, where it tells them, and how often it has failed
+pub record Outflow : Type 0 where
+  pub held : Option (List ℕ)
+  pub faults : ℕ

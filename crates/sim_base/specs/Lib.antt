@@ -3,3 +3,4 @@ pub mod Ends
 pub mod NameBytes
 pub mod Names
 pub mod Outside
+pub mod Room

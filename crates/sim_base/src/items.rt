@@ -102,3 +102,14 @@ impl<T> Items<T> {
         }
     }
 }
+
+impl<T: Drop> Items<T> {
+    /// Appends an item, as `push` does. Err is want of memory: the item is let go, and the list stays
+    /// as it was.
+    pub fn add(&mut self, item: T) -> Result<(), Memory>
+        ensures ok { OnOk result (self.new ≡ self.old ++ item ∷ []) }
+        ensures err { OnErr result (self.new ≡ self.old) }
+    {
+        self.push(item).map_err(|_| Memory)
+    }
+}

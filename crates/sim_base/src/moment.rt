@@ -3,7 +3,9 @@ use crate::ActorId;
 /// A point of simulated time: a tick, and within it a diasca. Ordered by tick, then by diasca.
 #[derive(Clone, Copy, Debug, PartialEq, Eq, PartialOrd, Ord, Hash)]
 pub struct Moment {
+    /// The tick, from 0: any number of a u64.
     pub tick: u64,
+    /// The diasca within the tick, from 0: what is done of itself is at 0.
     pub diasca: u32,
 }
 
@@ -16,16 +18,24 @@ pub enum Ending {
     TickLimit,
     /// Somebody would be scheduled at the diasca that is the limit.
     DiascaLimit,
-    /// This actor showed a fault with this code.
-    Fault { actor: ActorId, code: u32 },
+    /// An actor showed a fault.
+    Fault {
+        /// The actor, from 1.
+        actor: ActorId,
+        /// The code of the fault, from 1: to 899 an actor's own, from 900 the engine's.
+        code: u32,
+    },
 }
 
-/// One sample as a run records it: when, whose, of which of its kind's probes (from 0), and the
-/// value.
+/// One sample as a run records it.
 #[derive(Clone, Copy, Debug, PartialEq, Eq)]
 pub struct Row {
+    /// The moment that it was taken at.
     pub at: Moment,
+    /// The actor whose it is, from 1.
     pub actor: ActorId,
+    /// The probe, as its number among those of the actor's kind, from 0.
     pub probe: u32,
+    /// The value, in the probe's own unit: any number of an i64.
     pub value: i64,
 }

@@ -1,6 +1,6 @@
 ghost use Rattle.std.specs.Prelude.{◌≡◌, ◌<◌, ◌≤◌, List, ℕ, Option, length, IfErr, OnErr, OnOk};
 ghost use Rattle.std.specs.Io.KnownBytes.{Appends};
-ghost use Rattle.sim_base.specs.Outside.{PutCause, PutsAtMost, PutsFront, PutsTo, Rose};
+ghost use Rattle.sim_base.specs.Outside.{one_more, PutCause, PutsAtMost, PutsFront, PutsTo};
 
 /// What one call of `put` came to.
 #[derive(Clone, Copy, Debug, PartialEq, Eq)]
@@ -16,7 +16,7 @@ pub trait Sink {
     /// The bytes that were written, where the sink tells them.
     ghost written: { Self → Option (List ℕ) };
 
-    /// How often it has failed; the count stands still at the end of u64.
+    /// How often it has failed; the count stands still at the end of u64, and rises at a failure alone.
     ghost faults: { Self → ℕ };
 
     /// Writes some bytes from the front of a piece.
@@ -32,7 +32,9 @@ pub trait Sink {
 pub fn write_all_of<O: Sink>(sink: &mut O, bytes: &[u8]) -> Result<(), usize>
     ensures ok { OnOk result (Appends (O.written sink.old) (O.written sink.new) bytes.now) }
     ensures err { IfErr result (λ n. PutsFront (O.written sink.old) (O.written sink.new) bytes.now n) }
-    ensures fault { OnErr result (Rose (O.faults sink.old) (O.faults sink.new)) }
+    ensures part { IfErr result (λ n. n < length bytes.now) }
+    ensures fault { OnErr result (O.faults sink.new ≡ one_more (O.faults sink.old)) }
+    ensures no_fault { OnOk result (O.faults sink.new ≡ O.faults sink.old) }
     ensures later { O.faults sink.old ≤ O.faults sink.new }
 {
     let mut at = 0;

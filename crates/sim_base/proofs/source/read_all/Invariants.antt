@@ -1,4 +1,4 @@
-use Rattle.std.proofs.Common.{length, ◌-◌, ◌+◌, ◌≤◌}
+use Rattle.std.proofs.Common.{length, ◌-◌, ◌+◌, ◌≤◌, ◌≡◌}
 use Rattle.std.specs.Io.KnownBytes.{Consumes}
 use Rattle.sim_base.proofs.source.read_all.Given as goal
 
@@ -6,7 +6,7 @@ abbrev pub invariant-loop-piece : goal.invariant-loop-piece
 invariant-loop-piece g l =
     (length l.all.items ≤ l.limit + 1)
     × Consumes (g.S.Source.left l.fn.source) (g.S.Source.left l.source) l.all.items
-    × (g.S.Source.faults l.fn.source ≤ g.S.Source.faults l.source)
+    × (g.S.Source.faults l.source ≡ g.S.Source.faults l.fn.source)
 
 abbrev pub decreases-loop-piece : goal.decreases-loop-piece
 decreases-loop-piece g l = l.limit + 1 - length l.all.items

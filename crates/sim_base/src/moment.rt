@@ -1,3 +1,6 @@
+ghost use Rattle.std.specs.Prelude.{◌↔◌, IsTrue};
+ghost use Rattle.sim_base.specs.Moments.{IsBefore};
+
 use crate::ActorId;
 
 /// A point of simulated time: a tick, and within it a diasca. Ordered by tick, then by diasca.
@@ -7,6 +10,15 @@ pub struct Moment {
     pub tick: u64,
     /// The diasca within the tick, from 0: what is done of itself is at 0.
     pub diasca: u32,
+}
+
+impl Moment {
+    /// Whether it comes before another.
+    pub fn is_before(self, other: Moment) -> bool
+        ensures { IsTrue result ↔ IsBefore self other }
+    {
+        self < other
+    }
 }
 
 /// How a run ended.

@@ -7,8 +7,8 @@ use sha2::{Digest, Sha256};
 const DRAW_MARK: u8 = 0x44;
 
 /// Draw `k` of an actor at a tick and a diasca, under a seed: a number from 0 to `bound` - 1. It is
-/// the front of a SHA-256 digest modulo the bound, so that draws of different `k`, of different
-/// actors and at different moments have nothing to do with one another.
+/// the front of a SHA-256 digest modulo the bound, and depends on nothing else: which draws were
+/// made before, and by whom, doesn't change it.
 pub fn draw(seed: u64, tick: u64, diasca: u32, actor: u32, k: u32, bound: u64) -> u64
     requires { 1 ≤ bound }
     ensures value { result ≡ draw seed tick diasca actor k bound }

@@ -5,8 +5,7 @@
 
 mod draws;
 mod key;
-#[cfg(test)]
-mod tests;
+mod threads;
 
 pub use draws::draw;
 pub use key::{Key, letter_key};

@@ -1,14 +1,9 @@
-use crate::{Key, draw, letter_key};
+use hash_seed::{Key, draw, letter_key};
 use sha2::{Digest, Sha256};
 
 /// The bytes of a letter of the sender 5 to the recipient 4: seed 1, tick 2, diasca 3, serial 6.
 const LETTER: [u8; 32] = [
     0, 0, 0, 0, 0, 0, 0, 1, 0, 0, 0, 0, 0, 0, 0, 2, 0, 0, 0, 3, 0, 0, 0, 4, 0, 0, 0, 5, 0, 0, 0, 6,
-];
-
-/// The bytes of draw 5 of the actor 4: seed 1, tick 2, diasca 3.
-const DRAW: [u8; 29] = [
-    0, 0, 0, 0, 0, 0, 0, 1, 0, 0, 0, 0, 0, 0, 0, 2, 0, 0, 0, 3, 0, 0, 0, 4, 0, 0, 0, 5, 0x44,
 ];
 
 /// The digest of `LETTER`, by Python's hashlib.
@@ -17,40 +12,26 @@ const LETTER_DIGEST: [u8; 32] = [
     0x25, 0xb1, 0xc7, 0x1f, 0x83, 0x4f, 0x2f, 0xc2, 0xf7, 0x9b, 0x1e, 0x38, 0xfb, 0xb1, 0x1a, 0xb0,
 ];
 
+/// The bytes of draw 5 of the actor 4: seed 1, tick 2, diasca 3.
+const DRAW: [u8; 29] = [
+    0, 0, 0, 0, 0, 0, 0, 1, 0, 0, 0, 0, 0, 0, 0, 2, 0, 0, 0, 3, 0, 0, 0, 4, 0, 0, 0, 5, 0x44,
+];
+
 /// The first eight bytes of the digest of `DRAW`, by Python's hashlib.
 const DRAW_NUMBER: u64 = 0xb1c0_114e_b451_9ed8;
 
 #[test]
-fn a_key_is_the_digest_of_the_letter(rt: HostRuntime) {
+fn keys_and_draws_are_of_their_digests(rt: HostRuntime) {
     let key = letter_key(1, 2, 3, 4, 5, 6);
-    assert_eq!(rt; key, Key(Sha256::digest(LETTER)));
     assert_eq!(rt; key, Key(LETTER_DIGEST));
-}
-
-#[test]
-fn keys_are_ordered_as_bytes(rt: HostRuntime) {
-    let high = Key(LETTER_DIGEST);
-    let mut low = high;
+    assert_eq!(rt; key, Key(Sha256::digest(LETTER)));
+    let mut low = key;
     low.0[0] = 0xc1;
     low.0[31] = 0xff;
-    assert!(rt; low < high);
-    assert!(rt; high == letter_key(1, 2, 3, 4, 5, 6));
-}
-
-#[test]
-fn a_draw_is_the_front_of_the_digest_below_its_bound(rt: HostRuntime) {
+    assert!(rt; low < key);
     let digest = Sha256::digest(DRAW);
-    let mut front = [0u8; 8];
-    front.copy_from_slice(&digest[..8]);
-    assert_eq!(rt; u64::from_be_bytes(front), DRAW_NUMBER);
+    assert_eq!(rt; digest.first_chunk::<8>(), Some(&DRAW_NUMBER.to_be_bytes()));
     for (bound, want) in [(1, 0), (1_000, 864), (u64::MAX, DRAW_NUMBER)] {
         assert_eq!(rt; draw(1, 2, 3, 4, 5, bound), want, "below {bound}");
     }
-}
-
-fn crosses_threads<T: Send + Sync>() {}
-
-#[test]
-fn keys_cross_threads() {
-    crosses_threads::<Key>();
 }

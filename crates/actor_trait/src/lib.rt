@@ -12,8 +12,7 @@ mod faults;
 mod fuse;
 mod letter;
 mod outcome;
-#[cfg(test)]
-mod tests;
+mod precedence;
 
 pub use actor::Actor;
 pub use ball::Ball;
@@ -25,3 +24,4 @@ pub use faults::{FaultCode, fault_among, fault_of};
 pub use fuse::Fuse;
 pub use letter::{Letter, Parcel, Payload};
 pub use outcome::{Outcome, Sample};
+pub use precedence::Precedence;

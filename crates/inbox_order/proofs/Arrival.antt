@@ -3,7 +3,7 @@ use Rattle.std.proofs.Common.{◌≡◌, ◌≢◌, ℕ, suc, zero, ◌<◌, Boo
 use Rattle.std.proofs.lemmas.Bool.Decides.{nat_tests}
 use Rattle.std.proofs.lemmas.List.Elements.{filter_passes}
 use Rattle.std.proofs.lemmas.List.Kept.{AllPairs-filter}
-use Rattle.std.proofs.lemmas.List.Sorted.{Contains-permutation, sum_by-IsPermutation}
+use Rattle.std.proofs.lemmas.List.Sorted.{All-permutation, Contains-permutation, sum_by-IsPermutation}
 use Rattle.std.proofs.lemmas.List.Sums.{length-filter}
 use Rattle.std.specs.Cmp.{IsStrictWeakOrder, IsTotalOrder}
 use Rattle.std.specs.List.{All, AllPairs, filter}
@@ -12,11 +12,11 @@ use Rattle.std.specs.Ordering.{is_lt, nat_cmp, ordering_reverse, ordering_then}
 use Rattle.std.specs.declared.cmp.Ordering.{Ordering}
 use Rattle.std.specs.declared.cmp.Ordering.TheVariants.{Equal, Greater, Less}
 use Rattle.sim_base.specs.declared.ids.ActorId.{ActorId}
-use Rattle.sim_base.specs.declared.moment.Moment.{Moment}
 use Rattle.hash_seed.specs.Keys.{key_cmp}
-use Rattle.actor_trait.specs.InboxOrder.{AreDistinct, comes_before, in_order, inbox_order, is_to, key_of, letter_cmp, place_all}
+use Rattle.actor_trait.specs.InboxOrder.{Precedence, AreDistinct, comes_before, in_order, inbox_order, is_to, key_of, letter_cmp, place_all, rank_of}
 use Rattle.actor_trait.specs.declared.letter.Letter.{Letter}
-use Rattle.inbox_order.proofs.Finding.{equal_numbers}
+use Rattle.actor_trait.proofs.Numbers.{equal_numbers}
+use Rattle.inbox_order.proofs.Grouping.{filter_each}
 use Rattle.inbox_order.proofs.Letters.{comes_before_ranks, letter_cmp_total}
 use Rattle.inbox_order.proofs.Placing.{placed_all, same_placed, stable_place_all}
 
@@ -95,16 +95,18 @@ second_false false false h = refl
 tied : {X : Type 0} (lt : X → X → Bool) → IsStrictWeakOrder lt → (x l k : X) → ties lt x l ≡ true → ties lt x k ≡ true → lt l k ≡ false
 tied lt o x l k a b = o.chain l x k (second_false (lt x l) (lt l x) a) (first_false (lt x k) (lt k x) b)
 
-tied_letters : (seed : ℕ) (sent : Moment) (x l k : Letter) → ties (comes_before seed sent) x l ≡ true → ties (comes_before seed sent) x k ≡ true
+tied_letters : (precedence : Precedence) (x l k : Letter) → ties (comes_before precedence) x l ≡ true → ties (comes_before precedence) x k ≡ true
     → (l.from.0 ≡ k.from.0) × (l.serial ≡ k.serial)
 unfolding comes_before
-tied_letters seed sent x l k a b =
-    let up : is_lt (letter_cmp seed sent l k) ≡ false = tied (comes_before seed sent) (comes_before_ranks seed sent) x l k a b in
-    let down : is_lt (letter_cmp seed sent k l) ≡ false = tied (comes_before seed sent) (comes_before_ranks seed sent) x k l b a in
-    let total : IsTotalOrder (letter_cmp seed sent) = letter_cmp_total seed sent in
-    let equal : letter_cmp seed sent l k ≡ Equal = neither_less (letter_cmp seed sent l k) up (ap is_lt (sym (total.antisymm k l)) ∙ down) in
-    let parts = equal_parts (ordering_then (key_cmp (key_of seed sent l) (key_of seed sent k)) (nat_cmp l.from.0 k.from.0)) (nat_cmp l.serial k.serial) equal in
-    let front = equal_parts (key_cmp (key_of seed sent l) (key_of seed sent k)) (nat_cmp l.from.0 k.from.0) parts.0 in
+tied_letters precedence x l k a b =
+    let up : is_lt (letter_cmp precedence l k) ≡ false = tied (comes_before precedence) (comes_before_ranks precedence) x l k a b in
+    let down : is_lt (letter_cmp precedence k l) ≡ false = tied (comes_before precedence) (comes_before_ranks precedence) x k l b a in
+    let total : IsTotalOrder (letter_cmp precedence) = letter_cmp_total precedence in
+    let equal : letter_cmp precedence l k ≡ Equal = neither_less (letter_cmp precedence l k) up (ap is_lt (sym (total.antisymm k l)) ∙ down) in
+    let by_rank = nat_cmp (rank_of precedence l) (rank_of precedence k) in
+    let by_key = key_cmp (key_of precedence l) (key_of precedence k) in
+    let parts = equal_parts (ordering_then (ordering_then by_rank by_key) (nat_cmp l.from.0 k.from.0)) (nat_cmp l.serial k.serial) equal in
+    let front = equal_parts (ordering_then by_rank by_key) (nat_cmp l.from.0 k.from.0) parts.0 in
     (equal_numbers l.from.0 k.from.0 front.1, equal_numbers l.serial k.serial parts.1)
 
 -- ---- the inbox
@@ -124,27 +126,37 @@ both_true true true h = (refl, refl)
 both_true true false h = absurd (cc)
 both_true false c h = absurd (cc)
 
-pub same_inbox : (seed : ℕ) (sent : Moment) (a : ActorId) (xs ys : List Letter) → AreDistinct xs → IsPermutation xs ys → inbox_order xs a seed sent ≡ inbox_order ys a seed sent
+pub same_inbox : (precedence : Precedence) (a : ActorId) (xs ys : List Letter) → AreDistinct xs → IsPermutation xs ys → inbox_order xs a precedence ≡ inbox_order ys a precedence
 unfolding in_order
-same_inbox seed sent a xs ys distinct perm =
+same_inbox precedence a xs ys distinct perm =
     same_placed lt o (place_all lt [] (filter (is_to a) xs)) (place_all lt [] (filter (is_to a) ys)) (placed_all lt o [] (filter (is_to a) xs) tt) (placed_all lt o [] (filter (is_to a) ys) tt)
     (λ x. stable_place_all lt o (filter (is_to a) xs) x ∙ filter-filter (ties lt x) (is_to a) xs ∙ same_one (λ l. is_to a l && ties lt x l) xs ys (alone x) perm
     ∙ sym (filter-filter (ties lt x) (is_to a) ys) ∙ sym (stable_place_all lt o (filter (is_to a) ys) x))
   where
     lt : Letter → Letter → Bool
-    lt = comes_before seed sent
+    lt = comes_before precedence
 
-    o : IsStrictWeakOrder (comes_before seed sent)
-    o = comes_before_ranks seed sent
+    o : IsStrictWeakOrder (comes_before precedence)
+    o = comes_before_ranks precedence
 
-    alone : (x : Letter) → AllPairs (λ l k. (is_to a l && ties (comes_before seed sent) x l) ≡ true → (is_to a k && ties (comes_before seed sent) x k) ≡ true → ⊥) xs
+    alone : (x : Letter) → AllPairs (λ l k. (is_to a l && ties (comes_before precedence) x l) ≡ true → (is_to a k && ties (comes_before precedence) x k) ≡ true → ⊥) xs
     alone x i j d low high p q =
         let l : Letter = get_or xs i d in
         let k : Letter = get_or xs j d in
-        let first = both_true (is_to a (get_or xs i d)) (ties (comes_before seed sent) x (get_or xs i d)) p in
-        let second = both_true (is_to a (get_or xs j d)) (ties (comes_before seed sent) x (get_or xs j d)) q in
+        let first = both_true (is_to a (get_or xs i d)) (ties (comes_before precedence) x (get_or xs i d)) p in
+        let second = both_true (is_to a (get_or xs j d)) (ties (comes_before precedence) x (get_or xs j d)) q in
         let to_l : is_to a (get_or xs i d) ≡ true = first.0 in
         let to_k : is_to a (get_or xs j d) ≡ true = second.0 in
-        let same = tied_letters seed sent x (get_or xs i d) (get_or xs j d) first.1 second.1 in
+        let same = tied_letters precedence x (get_or xs i d) (get_or xs j d) first.1 second.1 in
         let one : (get_or xs i d).to.0 ≡ (get_or xs j d).to.0 = grind (arith, nat_tests) in
         distinct i j d low high (one, same.0, same.1)
+
+-- letters to one are all in its inbox, in whatever order they came
+pub same_order : (precedence : Precedence) (to : ActorId) (xs ys : List Letter) → AreDistinct xs → All (λ l. l.to ≡ to) xs → IsPermutation xs ys
+    → in_order precedence xs ≡ in_order precedence ys
+same_order precedence to xs ys distinct one perm =
+    let mine : (l : Letter) → l.to ≡ to → is_to to l ≡ true = λ l e. let same : l.to.0 ≡ to.0 = ap (λ (a : ActorId). a.0) e in grind (arith, nat_tests) in
+    let all_xs : filter (is_to to) xs ≡ xs = filter_each (is_to to) xs (λ k d h. mine (get_or xs k d) (one k d h)) in
+    let all_ys : filter (is_to to) ys ≡ ys = filter_each (is_to to) ys (λ k d h.
+    mine (get_or ys k d) (All-permutation (λ (l : Letter). l.to ≡ to) xs ys perm one k d h)) in
+    ap (in_order precedence) (sym all_xs) ∙ same_inbox precedence to xs ys distinct perm ∙ ap (in_order precedence) all_ys

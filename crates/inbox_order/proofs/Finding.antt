@@ -13,42 +13,9 @@ use Rattle.std.specs.Ordering.{is_lt, nat_cmp, ordering_index}
 use Rattle.std.specs.declared.cmp.Ordering.TheVariants.{Equal, Greater, Less}
 use Rattle.sim_base.specs.declared.ids.ActorId.{ActorId}
 use Rattle.actor_trait.specs.InboxOrder.{is_to}
+use Rattle.actor_trait.proofs.Numbers.{equal_numbers, is_lt-nat_cmp, not_less, unequal_greater, unequal_less}
 use Rattle.actor_trait.specs.declared.letter.Letter.{Letter}
 use Rattle.inbox_order.specs.Index.{IsIndex, IsRun, end_of}
-
--- ---- the order of numbers
-
-is_lt-nat_cmp : (x y : ℕ) → is_lt (nat_cmp x y) ≡ nat_lt x y
-is_lt-nat_cmp x y = by (nat_lt x y) (x == y)
-  where
-    by : (b c : Bool) → is_lt (cond b Less (cond c Equal Greater)) ≡ b
-    by true c = refl
-    by false true = refl
-    by false false = refl
-
-pub equal_numbers : (x y : ℕ) → nat_cmp x y ≡ Equal → x ≡ y
-equal_numbers x y e = by (nat_lt x y) (x == y) refl e
-  where
-    by : (b c : Bool) → (x == y) ≡ c → cond b Less (cond c Equal Greater) ≡ Equal → x ≡ y
-    by true c h k = absurd (cc)
-    by false true h k = grind (arith, nat_tests)
-    by false false h k = absurd (cc)
-
-unequal_less : (x y : ℕ) → nat_cmp x y ≡ Less → x ≢ y
-unequal_less x y e = by (nat_lt x y) (x == y) refl e
-  where
-    by : (b c : Bool) → nat_lt x y ≡ b → cond b Less (cond c Equal Greater) ≡ Less → x ≢ y
-    by true c h k = grind (arith, nat_tests)
-    by false true h k = absurd (cc)
-    by false false h k = absurd (cc)
-
-unequal_greater : (x y : ℕ) → nat_cmp x y ≡ Greater → x ≢ y
-unequal_greater x y e = by (nat_lt x y) (x == y) refl e
-  where
-    by : (b c : Bool) → (x == y) ≡ c → cond b Less (cond c Equal Greater) ≡ Greater → x ≢ y
-    by true c h k = absurd (cc)
-    by false true h k = absurd (cc)
-    by false false h k = grind (arith, nat_tests)
 
 tie_of_numbers : (x y : ℕ) → (not (is_lt (nat_cmp x y)) && not (is_lt (nat_cmp y x))) ≡ (y == x)
 tie_of_numbers x y = rw (is_lt-nat_cmp x y, is_lt-nat_cmp y x) (grind (arith, nat_tests))
@@ -92,9 +59,6 @@ range_some ls start end to h = let some : start < end = h.some in omega arith
 ascending : (ls : List Letter) (rs : List ActorId) (ss : List ℕ) → IsIndex ls rs ss → (k : ℕ) (d : ActorId) → k + 1 < length rs → (get_or rs k d).0 < (get_or rs (k + 1) d).0
 ascending ls rs ss h k d b =
     h.rising k (k + 1) (get_or rs k d) (get_or rs (k + 1) d) (omega arith) (slice_get-get_or rs k d (omega arith)) (slice_get-get_or rs (k + 1) d b)
-
-not_less : (x y : ℕ) → x < y → is_lt (nat_cmp y x) ≡ false
-not_less x y h = rw (is_lt-nat_cmp y x) (grind (arith, nat_tests))
 
 pub searchable : (ls : List Letter) (rs : List ActorId) (ss : List ℕ) (to : ActorId) → IsIndex ls rs ss → IsNonDecreasingBy (λ r. ordering_index (nat_cmp r.0 to.0)) rs
 searchable ls rs ss to h =

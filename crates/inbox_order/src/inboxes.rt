@@ -8,8 +8,8 @@ ghost use Rattle.inbox_order.specs.Inboxes.{AreInboxesOf, inbox_of};
 
 use crate::groups::{order_groups, sort_by_recipient};
 use crate::index::Index;
-use actor_trait::Letter;
-use sim_base::{ActorId, Items, Memory, Moment};
+use actor_trait::{Letter, Precedence};
+use sim_base::{ActorId, Items, Memory};
 use std::alloc::Global;
 use std::marker::Model;
 
@@ -23,6 +23,7 @@ pub struct Inboxes {
 
 impl Model for Inboxes {
     ghost use Rattle.std.specs.Prelude.{List};
+    ghost use Rattle.std.specs.List.Sorted.{IsNonDecreasingBy};
     ghost use Rattle.actor_trait.specs.declared.letter.Letter.{Letter};
     ghost use Rattle.inbox_order.specs.Index.{IsIndex};
 
@@ -30,30 +31,36 @@ impl Model for Inboxes {
 
     ghost view = { λ x. x.letters.items };
 
-    ghost invariant = { λ x. IsIndex x.letters.items x.index.recipients.items x.index.starts.items };
+    ghost invariant = { λ x. IsNonDecreasingBy (λ l. l.to.0) x.letters.items
+        × IsIndex x.letters.items x.index.recipients.items x.index.starts.items };
 }
 
 impl Inboxes {
-    /// The inboxes that letters make which were sent at a moment, under a seed. No key is computed for a
-    /// letter that stands alone in its inbox. Err is want of memory.
-    pub fn of(alloc: Global, letters: &[Letter], seed: u64, sent: Moment) -> Result<Inboxes, Memory>
-        ensures inboxes { IfOk result (λ inboxes. AreInboxesOf inboxes letters.now seed sent) }
+    /// The inboxes that these letters make. No key is computed for a letter that stands alone in its
+    /// inbox. Err is want of memory.
+    pub fn of(
+        alloc: Global,
+        letters: &[Letter],
+        precedence: &Precedence<'_>,
+    ) -> Result<Inboxes, Memory>
+        ensures inboxes { IfOk result (λ inboxes. AreInboxesOf inboxes letters.now precedence.now) }
         ensures by_recipient { IfOk result (λ inboxes. IsNonDecreasingBy (λ l. l.to.0) inboxes) }
 
         // The inboxes are the same in whatever order the letters came.
         ensures arrival { AreDistinct letters.now → (others : List Letter) → IsPermutation letters.now others
-            → IfOk result (λ inboxes. AreInboxesOf inboxes others seed sent) }
+            → IfOk result (λ inboxes. AreInboxesOf inboxes others precedence.now) }
     {
         let mut all = letters.to_vec(alloc)?;
         sort_by_recipient(&mut all)?;
-        order_groups(alloc, &mut all, seed, sent)?;
+        order_groups(alloc, &mut all, precedence)?;
         Inboxes::indexed(alloc, all)
     }
 
-    /// Those who have a letter, ascending.
+    /// Those who have a letter, ascending. The letters lie by recipient, too.
     pub fn recipients(&self) -> &[ActorId]
         ensures ascending { IsStrictlyIncreasing (map (λ r. r.0) result.now) }
         ensures each { (to : ActorId) → Contains result.now to ↔ (0 < length (inbox_of self.now to)) }
+        ensures by_recipient { IsNonDecreasingBy (λ l. l.to.0) self.now }
     {
         &self.index.recipients
     }

@@ -1,14 +1,12 @@
 //! The order of inboxes: the letters of a moment, sorted out by recipient, each inbox in the order
-//! that the seed gives it. That order depends on what was sent and on nothing else, so it is the same
-//! whichever thread sent first.
+//! that its precedence gives it. That order depends on what was sent and on nothing else, so it is the
+//! same whichever thread sent first.
 #![tactic(auto)]
 
 mod groups;
 mod inboxes;
 mod index;
 mod order;
-#[cfg(test)]
-mod tests;
 
 pub use inboxes::Inboxes;
 pub use order::order_inbox;

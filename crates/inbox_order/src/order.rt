@@ -1,30 +1,31 @@
 ghost use Rattle.std.specs.Prelude.{◌≡◌, ◌≤◌, List, length, IfOk, IsOk, OnOk, OnErr};
+ghost use Rattle.std.specs.List.{All};
 ghost use Rattle.std.specs.List.Sorted.{IsPermutation};
+ghost use Rattle.sim_base.specs.declared.ids.ActorId.{ActorId};
 ghost use Rattle.actor_trait.specs.InboxOrder.{AreDistinct, in_order};
 ghost use Rattle.actor_trait.specs.declared.letter.Letter.{Letter};
-ghost use Rattle.inbox_order.specs.Inboxes.{AreInboxesOf};
 
-use actor_trait::Letter;
-use hash_seed::letter_key;
-use sim_base::{Items, Memory, Moment};
+use actor_trait::{Letter, Precedence};
+use sim_base::{Items, Memory};
 use std::alloc::Global;
 
-/// The letters of one inbox that were sent at a moment, in inbox order: by their keys under the seed,
-/// then by sender, then by serial. Where no two agree in sender and serial, the order in which they
-/// came doesn't matter. Err is want of memory, and never comes for fewer than two letters.
+/// The letters of one inbox in inbox order: first those of urgent senders, then the others, and within
+/// each of the two groups by key, then by sender, then by serial. Where no two agree in sender and
+/// serial, the order in which they came doesn't matter. Err is want of memory, and never comes for
+/// fewer than two letters.
 pub fn order_inbox(
     alloc: Global,
     letters: Items<Letter>,
-    seed: u64,
-    sent: Moment,
+    precedence: &Precedence<'_>,
 ) -> Result<Items<Letter>, Memory>
-    ensures order { IfOk result (λ ordered. ordered ≡ in_order seed sent letters) }
-    ensures arrival { AreDistinct letters → (others : List Letter) → IsPermutation letters others
-        → IfOk result (λ ordered. AreInboxesOf ordered others seed sent) }
+    ensures order { IfOk result (λ ordered. ordered ≡ in_order precedence.now letters) }
+    ensures arrival { AreDistinct letters → (to : ActorId) → All (λ l. l.to ≡ to) letters
+        → (others : List Letter) → IsPermutation letters others
+        → IfOk result (λ ordered. ordered ≡ in_order precedence.now others) }
     ensures short { length letters ≤ 1 → IsOk result }
 {
     let mut letters = letters.into_vec();
-    put_in_order(alloc, letters.as_mut_slice(), seed, sent)?;
+    put_in_order(alloc, letters.as_mut_slice(), precedence)?;
     Ok(Items::of(letters))
 }
 
@@ -33,23 +34,16 @@ pub fn order_inbox(
 pub fn put_in_order(
     alloc: Global,
     letters: &mut [Letter],
-    seed: u64,
-    sent: Moment,
+    precedence: &Precedence<'_>,
 ) -> Result<(), Memory>
-    ensures ok { OnOk result (letters.new ≡ in_order seed sent letters.old) }
+    ensures ok { OnOk result (letters.new ≡ in_order precedence.now letters.old) }
     ensures err { OnErr result (letters.new ≡ letters.old) }
     ensures short { length letters.old ≤ 1 → IsOk result }
 {
     letters.sort_by_cached_key(alloc, |letter| {
-        let key = letter_key(
-            seed,
-            sent.tick,
-            sent.diasca,
-            letter.to.0,
-            letter.from.0,
-            letter.serial,
-        );
-        (key, letter.from, letter.serial)
+        let rank = precedence.rank_of(letter);
+        let key = precedence.key_of(letter);
+        (rank, key, letter.from, letter.serial)
     })?;
     Ok(())
 }

@@ -10,8 +10,6 @@ mod letters;
 mod machine;
 mod random_customer;
 mod refill;
-#[cfg(test)]
-mod tests;
 
 pub use customer::Customer;
 pub use depot::Depot;

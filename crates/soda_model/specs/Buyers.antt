@@ -15,8 +15,8 @@ use Rattle.soda_model.specs.declared.buyer.Buyer.{Buyer}
 abbrev pub buys : Buyer → Seen → Bool
 buys b e = e.spontaneous && not (int_lt b.money b.offer)
 
-abbrev pub paid : Buyer → Buyer
-paid b = record b { money = saturate_signed w64 (b.money -ℤ b.offer) }
+abbrev pub pay : Buyer → Buyer
+pay b = record b { money = saturate_signed w64 (b.money -ℤ b.offer) }
 
 abbrev pub with_money : Buyer → ℤ → Buyer
 with_money b money = record b { money = saturate_signed w64 (b.money +ℤ money) }
@@ -29,8 +29,8 @@ abbrev pub is_answer : ActorId → Letter → Bool
 is_answer machine l = (l.from.0 == machine.0) && (has_code 11 l || has_code 12 l)
 
 -- with a can comes the change, with a refund the money
-abbrev pub answered : Buyer → Letter → Buyer
-answered b l =
+abbrev pub answer : Buyer → Letter → Buyer
+answer b l =
     if is_answer b.machine l then with_money (if has_code 11 l then with_can b else b) l.payload.a else b
 
 -- the tick after a wait, at most the last of a u64
@@ -38,8 +38,8 @@ abbrev pub tick_after : Context → ℕ → ℕ
 tick_after c wait = min (c.now.tick + wait) (2 ^ 64 - 1)
 
 -- that tick at its first event, and where it buys
-abbrev pub asked : Context → ℕ → Bool → Bool → List ℕ
-asked c wait first buys =
+abbrev pub ask : Context → ℕ → Bool → Bool → List ℕ
+ask c wait first buys =
     (if first then tick_after c wait ∷ [] else []) ++ (if buys then tick_after c wait ∷ [] else [])
 
 abbrev pub buyer_samples : Buyer → List Sample
@@ -47,11 +47,11 @@ buyer_samples b = record { probe = 0; value = b.cans } ∷ record { probe = 1; v
 
 abbrev pub buyer_acts : Buyer → ℕ → Context → Seen → Outcome Buyer
 buyer_acts b wait c e =
-    let after = fold answered (if buys b e then paid b else b) e.inbox in
+    let after = fold answer (if buys b e then pay b else b) e.inbox in
     record {
       state = after;
       sends = (if buys b e then offer_to b.machine b.offer ∷ [] else []);
-      ticks = asked c wait e.first (buys b e);
+      ticks = ask c wait e.first (buys b e);
       births = [];
       samples = (if list_any (is_answer b.machine) e.inbox then buyer_samples after else []);
       retire = false;

@@ -15,8 +15,8 @@ abbrev pub is_birth : Letter → Bool
 is_birth l = (l.from.0 == 0) && has_code 0 l
 
 -- a birth is counted, at most to the last of an i64
-abbrev pub told : DepotFields → Letter → DepotFields
-told s l = if is_birth l then record s { born = saturate_signed w64 (s.born +ℤ pos 1) } else s
+abbrev pub hear : DepotFields → Letter → DepotFields
+hear s l = if is_birth l then record s { born = saturate_signed w64 (s.born +ℤ pos 1) } else s
 
 -- a refill of its machine
 abbrev pub refill_of : DepotFields → RefillFields
@@ -24,7 +24,7 @@ refill_of s = record { machine = s.machine; cans = s.cans }
 
 abbrev pub depot_bears : DepotFields → Context → Seen → Bearing DepotFields RefillFields
 depot_bears s c e =
-    let after = fold told s e.inbox in
+    let after = fold hear s e.inbox in
     record {
       state = after;
       sends = [];

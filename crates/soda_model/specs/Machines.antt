@@ -19,20 +19,20 @@ abbrev pub sells : MachineFields → ℤ → Bool
 sells s money = int_lt (pos 0) s.stock && not (int_lt money s.price)
 
 -- one can less, and the price taken in
-abbrev pub sold : MachineFields → MachineFields
-sold s = record s { stock = saturate_signed w64 (s.stock -ℤ pos 1); coins = saturate_signed w64 (s.coins +ℤ s.price) }
+abbrev pub sell : MachineFields → MachineFields
+sell s = record s { stock = saturate_signed w64 (s.stock -ℤ pos 1); coins = saturate_signed w64 (s.coins +ℤ s.price) }
 
 -- so many cans more, and never above 1,000,000,000
-abbrev pub filled : MachineFields → ℤ → MachineFields
-filled s cans =
+abbrev pub fill : MachineFields → ℤ → MachineFields
+fill s cans =
     if int_lt (pos 0) cans then record s { stock = int_min (saturate_signed w64 (s.stock +ℤ cans)) (pos 1000000000) } else s
 
 -- for enough money a can and the change, else the money again
-abbrev pub bought : Trade → ActorId → ℤ → Trade
-bought t customer money =
+abbrev pub buy : Trade → ActorId → ℤ → Trade
+buy t customer money =
     let s = t.machine in
     if sells s money then record {
-      machine = sold s;
+      machine = sell s;
       sends = t.sends ++ can_to customer (saturate_signed w64 (money -ℤ s.price)) ∷ [];
     }
     else record t {
@@ -40,10 +40,10 @@ bought t customer money =
     }
 
 -- a machine that gets money (10) sells or refuses, and one that gets cans (13) is filled
-abbrev pub served : Trade → Letter → Trade
-served t l =
-    if has_code 10 l then bought t l.from l.payload.a
-    else (if has_code 13 l then record t { machine = filled t.machine l.payload.a } else t)
+abbrev pub serve : Trade → Letter → Trade
+serve t l =
+    if has_code 10 l then buy t l.from l.payload.a
+    else (if has_code 13 l then record t { machine = fill t.machine l.payload.a } else t)
 
 abbrev pub is_asked : Letter → Bool
 is_asked l = has_code 10 l || has_code 13 l
@@ -53,7 +53,7 @@ machine_samples s = record { probe = 0; value = s.stock } ∷ record { probe = 1
 
 abbrev pub machine_acts : MachineFields → Context → Seen → Outcome MachineFields
 machine_acts s c e =
-    let after = fold served (record { machine = s; sends = [] }) e.inbox in
+    let after = fold serve (record { machine = s; sends = [] }) e.inbox in
     record {
       state = after.machine;
       sends = after.sends;

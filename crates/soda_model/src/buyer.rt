@@ -4,7 +4,7 @@ ghost use Rattle.std.specs.Prelude.{◌≡◌, ℕ, [], ◌∷◌, if◌then◌e
 ghost use Rattle.std.specs.List.{fold, list_any};
 ghost use Rattle.actor_trait.specs.Seen.{seen};
 ghost use Rattle.actor_trait.specs.declared.context.Context.{Context};
-ghost use Rattle.soda_model.specs.Buyers.{answered, asked, buyer_acts, buyer_samples, buys, is_answer, paid};
+ghost use Rattle.soda_model.specs.Buyers.{answer, ask, buyer_acts, buyer_samples, buys, is_answer, pay};
 ghost use Rattle.soda_model.specs.Letters.{offer_to};
 
 use crate::letters::{CAN, OFFER, REFUND, send};
@@ -13,7 +13,7 @@ use sim_base::{ActorId, Items, Memory};
 use std::alloc::Global;
 
 /// How long a customer waits until it buys again.
-pub(crate) trait Wait {
+pub(crate) trait Waiting {
     /// What the wait is.
     ghost wait_of: { Self → Context → ℕ };
 
@@ -51,7 +51,7 @@ impl Buyer {
 
     /// What is left of its money, if it buys.
     fn after_offer(self, buys: bool) -> Buyer
-        ensures { result ≡ (if buys then paid self else self) }
+        ensures { result ≡ (if buys then pay self else self) }
     {
         if buys {
             Buyer {
@@ -65,7 +65,7 @@ impl Buyer {
 
     /// Takes in a can with its change, or a refund; any other letter is ignored.
     fn answer(&mut self, letter: &Letter)
-        ensures { self.new ≡ answered self.old letter.now }
+        ensures { self.new ≡ answer self.old letter.now }
     {
         if !is_answer(self.machine, letter) {
             return;
@@ -107,7 +107,7 @@ fn any_answer(machine: ActorId, inbox: &[Letter]) -> bool
 }
 
 fn answer_all(buyer: Buyer, inbox: &[Letter]) -> Buyer
-    ensures { result ≡ fold answered buyer inbox.now }
+    ensures { result ≡ fold answer buyer inbox.now }
 {
     let mut buyer = buyer;
     for letter in inbox {
@@ -117,14 +117,14 @@ fn answer_all(buyer: Buyer, inbox: &[Letter]) -> Buyer
 }
 
 /// Asks the tick after the wait, once for each of the two causes.
-fn ask<W: Wait>(
+fn ask<W: Waiting>(
     alloc: Global,
     waiting: &W,
     context: &Context,
     first: bool,
     buys: bool,
 ) -> Result<Items<u64>, Memory>
-    ensures { IfOk result (λ ticks. ticks ≡ asked context.entry.now (W.wait_of waiting.now context.entry.now) first buys) }
+    ensures { IfOk result (λ ticks. ticks ≡ ask context.entry.now (W.wait_of waiting.now context.entry.now) first buys) }
 {
     let mut ticks = Items::with_room(alloc, usize::from(first) + usize::from(buys))?;
     if first || buys {
@@ -140,7 +140,7 @@ fn ask<W: Wait>(
 }
 
 /// What comes of an event of a customer that waits in this way.
-pub(crate) fn shop<W: Wait>(
+pub(crate) fn shop<W: Waiting>(
     alloc: Global,
     buyer: Buyer,
     waiting: &W,

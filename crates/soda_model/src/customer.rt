@@ -1,6 +1,6 @@
 ghost use Rattle.std.specs.Prelude.{refl};
 
-use crate::buyer::{Buyer, Wait, shop};
+use crate::buyer::{Buyer, Waiting, shop};
 use actor_trait::{Actor, Context, Event, Outcome};
 use sim_base::{ActorId, Items, Memory};
 use std::alloc::Global;
@@ -33,7 +33,7 @@ impl Model for Customer {
     ghost inverse = { λ s. record { machine = s.machine; period = s.period; money = s.money; offer = s.offer; cans = s.cans } };
 }
 
-impl Wait for Customer {
+impl Waiting for Customer {
     ghost wait_of = { λ s _. s.period };
 
     fn wait(&self, _context: &Context) -> u64 {

@@ -1,7 +1,7 @@
 ghost use Rattle.std.specs.Prelude.{◌≡◌, IfOk, replicate};
 ghost use Rattle.std.specs.List.{fold, list_any};
 ghost use Rattle.actor_trait.specs.Seen.{seen};
-ghost use Rattle.soda_model.specs.Depots.{is_birth, told};
+ghost use Rattle.soda_model.specs.Depots.{is_birth, hear};
 
 use crate::Refill;
 use actor_trait::{Bearing, Context, Event, Letter, Sample};
@@ -96,7 +96,7 @@ impl Depot {
 
     /// Counts a birth; any other letter is ignored.
     fn hear(&mut self, letter: &Letter)
-        ensures { self.new ≡ told self.old letter.now }
+        ensures { self.new ≡ hear self.old letter.now }
     {
         if is_birth(letter) {
             self.born = self.born.saturating_add(1);
@@ -105,7 +105,7 @@ impl Depot {
 }
 
 fn count_births(depot: Depot, inbox: &[Letter]) -> Depot
-    ensures { result ≡ fold told depot inbox.now }
+    ensures { result ≡ fold hear depot inbox.now }
 {
     let mut depot = depot;
     for letter in inbox {

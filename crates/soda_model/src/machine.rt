@@ -1,7 +1,7 @@
 ghost use Rattle.std.specs.Prelude.{◌≡◌, IfOk, OnOk, refl};
 ghost use Rattle.std.specs.List.{count_by, fold, list_any};
 ghost use Rattle.soda_model.specs.Letters.{has_code};
-ghost use Rattle.soda_model.specs.Machines.{is_asked, served};
+ghost use Rattle.soda_model.specs.Machines.{is_asked, serve};
 
 use crate::letters::{CAN, FILL, OFFER, REFUND, SOLD_OUT, TOO_LITTLE, send};
 use actor_trait::{Actor, Context, Event, Letter, Outcome, Parcel, Sample};
@@ -40,7 +40,7 @@ impl Model for Machine {
 }
 
 impl Machine {
-    ghost use Rattle.soda_model.specs.Machines.{filled, machine_samples, sells, sold};
+    ghost use Rattle.soda_model.specs.Machines.{fill, machine_samples, sells, sell};
 
     /// Whether so much money buys a can.
     fn sells(&self, money: i64) -> bool
@@ -51,7 +51,7 @@ impl Machine {
 
     /// Takes out a can, and takes in its price.
     fn sell(&mut self)
-        ensures { self.new ≡ sold self.old }
+        ensures { self.new ≡ sell self.old }
     {
         self.stock = self.stock.saturating_sub(1);
         self.coins = self.coins.saturating_add(self.price);
@@ -59,7 +59,7 @@ impl Machine {
 
     /// Takes in so many cans, up to the ceiling; a number that isn't above 0 changes nothing.
     fn fill(&mut self, cans: i64)
-        ensures { self.new ≡ filled self.old cans }
+        ensures { self.new ≡ fill self.old cans }
     {
         if cans > 0 {
             self.stock = self.stock.saturating_add(cans).min(CEILING);
@@ -90,11 +90,11 @@ struct Trade {
 }
 
 impl Trade {
-    ghost use Rattle.soda_model.specs.Machines.{bought};
+    ghost use Rattle.soda_model.specs.Machines.{buy};
 
     /// Sells a can and gives the change, or gives the money back and says why.
     fn buy(&mut self, customer: ActorId, money: i64) -> Result<(), Memory>
-        ensures { OnOk result (self.new ≡ bought self.old customer money) }
+        ensures { OnOk result (self.new ≡ buy self.old customer money) }
     {
         if self.machine.sells(money) {
             let change = money.saturating_sub(self.machine.price);
@@ -109,7 +109,7 @@ impl Trade {
 
     /// Sells, refuses or is filled; any other letter is ignored.
     fn serve(&mut self, letter: &Letter) -> Result<(), Memory>
-        ensures { OnOk result (self.new ≡ served self.old letter.now) }
+        ensures { OnOk result (self.new ≡ serve self.old letter.now) }
     {
         match letter.payload.code {
             OFFER => self.buy(letter.from, letter.payload.a)?,
@@ -121,7 +121,7 @@ impl Trade {
 }
 
 fn serve_all(trade: &mut Trade, inbox: &[Letter]) -> Result<(), Memory>
-    ensures { OnOk result (trade.new ≡ fold served trade.old inbox.now) }
+    ensures { OnOk result (trade.new ≡ fold serve trade.old inbox.now) }
 {
     for letter in inbox {
         trade.serve(letter)?;

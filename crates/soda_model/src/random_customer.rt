@@ -1,6 +1,6 @@
 ghost use Rattle.std.specs.Prelude.{refl};
 
-use crate::buyer::{Buyer, Wait, shop};
+use crate::buyer::{Buyer, Waiting, shop};
 use actor_trait::{Actor, Context, Event, Outcome};
 use sim_base::{ActorId, Items, Memory};
 use std::alloc::Global;
@@ -35,7 +35,7 @@ impl Model for RandomCustomer {
     ghost inverse = { λ s. record { machine = s.machine; low = s.low; high = s.high; money = s.money; offer = s.offer; cans = s.cans } };
 }
 
-impl Wait for RandomCustomer {
+impl Waiting for RandomCustomer {
     ghost use Rattle.soda_model.specs.RandomCustomers.{random_wait};
 
     ghost wait_of = { random_wait };

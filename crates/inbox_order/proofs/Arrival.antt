@@ -23,7 +23,7 @@ use Rattle.inbox_order.proofs.Placing.{placed_all, same_placed, stable_place_all
 -- ---- a test that at most one passes
 
 -- what a filter keeps is in the list
-kept_is_in : {X : Type 0} (p : X → Bool) (xs : List X) (a : X) (w : List X) → filter p xs ≡ a ∷ w → Contains xs a × (p a ≡ true)
+pub kept_is_in : {X : Type 0} (p : X → Bool) (xs : List X) (a : X) (w : List X) → filter p xs ≡ a ∷ w → Contains xs a × (p a ≡ true)
 kept_is_in p [] a w e = absurd (cc)
 kept_is_in {X} p (x ∷ xs) a w e = by (λ h. kept_is_in p xs a w h) (p x) refl e
   where
@@ -32,7 +32,7 @@ kept_is_in {X} p (x ∷ xs) a w e = by (λ h. kept_is_in p xs a w h) (p x) refl 
     by g false h k = let found = g k in let within : found.0.0 < length xs = found.0.1 in ((suc found.0.0, omega arith, found.0.2), found.1)
 
 -- what passes and is in the list is kept
-not_lost : {X : Type 0} (p : X → Bool) (xs : List X) (a : X) → Contains xs a → p a ≡ true → filter p xs ≢ []
+pub not_lost : {X : Type 0} (p : X → Bool) (xs : List X) (a : X) → Contains xs a → p a ≡ true → filter p xs ≢ []
 not_lost p [] a c h = absurd (omega (arith, c.1))
 not_lost {X} p (x ∷ xs) a c h = by (λ g. not_lost p xs a g h) c.0 c.1 c.2 (p x) refl
   where

@@ -20,7 +20,7 @@ use Rattle.inbox_order.specs.Index.{IsIndex, IsRun, end_of}
 tie_of_numbers : (x y : ℕ) → (not (is_lt (nat_cmp x y)) && not (is_lt (nat_cmp y x))) ≡ (y == x)
 tie_of_numbers x y = rw (is_lt-nat_cmp x y, is_lt-nat_cmp y x) (grind (arith, nat_tests))
 
-one_id : (r q : ActorId) → r.0 ≡ q.0 → r ≡ q
+pub one_id : (r q : ActorId) → r.0 ≡ q.0 → r ≡ q
 one_id r q e = let id : ℕ → ActorId = λ n. record { 0 = n } in ap id e
 
 -- ---- letters sorted by recipient

@@ -1,7 +1,10 @@
 pub mod Arrival
+pub mod Crowding
 pub mod Finding
+pub mod Fronts
 pub mod Grouping
 pub mod Indexing
 pub mod Joining
+pub mod Keys
 pub mod Letters
 pub mod Placing

@@ -3,9 +3,11 @@
 //! same whichever thread sent first.
 #![tactic(auto)]
 
+mod crowded;
 mod groups;
 mod inboxes;
 mod index;
+mod keyed;
 mod order;
 
 pub use inboxes::Inboxes;

@@ -3,12 +3,13 @@
 //! same whichever thread sent first.
 #![tactic(auto)]
 
-mod crowded;
 mod groups;
 mod inboxes;
 mod index;
 mod keyed;
+mod names;
 mod order;
+mod threads;
 
 pub use inboxes::Inboxes;
 pub use order::order_inbox;

@@ -1,18 +1,20 @@
-ghost use Rattle.std.specs.Prelude.{◌≡◌, ◌≤◌, List, length, IfOk, IsOk, OnOk, OnErr};
+ghost use Rattle.std.specs.Prelude.{◌≡◌, ◌≤◌, List, length, IfOk, IsOk, OnOk};
 ghost use Rattle.std.specs.List.{All};
 ghost use Rattle.std.specs.List.Sorted.{IsPermutation};
 ghost use Rattle.sim_base.specs.declared.ids.ActorId.{ActorId};
 ghost use Rattle.actor_trait.specs.InboxOrder.{AreDistinct, in_order};
 ghost use Rattle.actor_trait.specs.declared.letter.Letter.{Letter};
 
+use crate::keyed::put_in_order_by;
+use crate::names::{keys_of, push_names};
 use actor_trait::{Letter, Precedence};
 use sim_base::{Items, Memory};
 use std::alloc::Global;
 
 /// The letters of one inbox in inbox order: first those of urgent senders, then the others, and within
 /// each of the two groups by key, then by sender, then by serial. Where no two agree in sender and
-/// serial, the order in which they came doesn't matter. Err is want of memory, and never comes for
-/// fewer than two letters.
+/// serial, the order in which they came doesn't matter. Fewer than two letters need no key. Err is want
+/// of memory, and never comes for fewer than two letters.
 pub fn order_inbox(
     alloc: Global,
     letters: Items<Letter>,
@@ -24,26 +26,24 @@ pub fn order_inbox(
         → IfOk result (λ ordered. ordered ≡ in_order precedence.now others) }
     ensures short { length letters ≤ 1 → IsOk result }
 {
+    if letters.len() < 2 {
+        return Ok(letters);
+    }
     let mut letters = letters.into_vec();
     put_in_order(alloc, letters.as_mut_slice(), precedence)?;
     Ok(Items::of(letters))
 }
 
-/// Puts the letters of one inbox in order. Each key is computed once, and none where there are fewer
-/// than two letters. Err is want of memory, and leaves the letters as they were.
-pub fn put_in_order(
+/// Puts the letters of one inbox in order. Err is want of memory.
+fn put_in_order(
     alloc: Global,
     letters: &mut [Letter],
     precedence: &Precedence<'_>,
 ) -> Result<(), Memory>
-    ensures ok { OnOk result (letters.new ≡ in_order precedence.now letters.old) }
-    ensures err { OnErr result (letters.new ≡ letters.old) }
-    ensures short { length letters.old ≤ 1 → IsOk result }
+    ensures { OnOk result (letters.new ≡ in_order precedence.now letters.old) }
 {
-    letters.sort_by_cached_key(alloc, |letter| {
-        let rank = precedence.rank_of(letter);
-        let key = precedence.key_of(letter);
-        (rank, key, letter.from, letter.serial)
-    })?;
-    Ok(())
+    let mut names = Vec::new(alloc);
+    push_names(&mut names, letters)?;
+    let keys = keys_of(alloc, &names, precedence)?;
+    put_in_order_by(&mut Vec::new(alloc), letters, &keys, precedence)
 }

@@ -1,6 +1,6 @@
 use Rattle.std.proofs.Common.{arith}
 use Rattle.inbox_order.proofs.Crowding.{names_all, names_more}
-use Rattle.inbox_order.proofs.crowded.names_of_crowded.Goals as goal
+use Rattle.inbox_order.proofs.names.names_of_crowded.Goals as goal
 
 pub loop-start-preserved : goal.loop-start-preserved
 loop-start-preserved c =

@@ -1,10 +1,13 @@
-ghost use Rattle.std.specs.Prelude.{◌≡◌, ◌++◌, if◌then◌else◌, [], length, map, nat_lt, IfOk, OnOk};
+ghost use Rattle.std.specs.Prelude.{◌≡◌, ◌++◌, if◌then◌else◌, List, [], length, map, nat_lt, IfOk, OnOk};
 ghost use Rattle.std.specs.List.Sorted.{IsNonDecreasingBy};
+ghost use Rattle.actor_trait.specs.InboxOrder.{key_of};
+ghost use Rattle.actor_trait.specs.declared.letter.Letter.{Letter};
 ghost use Rattle.inbox_order.specs.Keyed.{crowded, name_of};
 
 use crate::groups::run_of;
-use actor_trait::Letter;
-use hash_lanes::LetterName;
+use actor_trait::{Letter, Precedence};
+use hash_lanes::{LetterName, letter_keys};
+use hash_seed::Key;
 use sim_base::Memory;
 use std::alloc::Global;
 
@@ -35,7 +38,8 @@ fn push_group(names: &mut Vec<LetterName>, letters: &[Letter]) -> Result<(), Mem
     Ok(())
 }
 
-fn push_names(names: &mut Vec<LetterName>, letters: &[Letter]) -> Result<(), Memory>
+/// Adds letters.
+pub(crate) fn push_names(names: &mut Vec<LetterName>, letters: &[Letter]) -> Result<(), Memory>
     ensures { OnOk result (names.new.items ≡ names.old.items ++ map name_of letters.now) }
 {
     for letter in letters {
@@ -46,4 +50,18 @@ fn push_names(names: &mut Vec<LetterName>, letters: &[Letter]) -> Result<(), Mem
         })?;
     }
     Ok(())
+}
+
+/// The keys of the letters that have these names. Err is want of memory.
+pub(crate) fn keys_of(
+    alloc: Global,
+    names: &[LetterName],
+    precedence: &Precedence<'_>,
+) -> Result<Vec<Key>, Memory>
+    ensures { (letters : List Letter) → names.now ≡ map name_of letters
+        → IfOk result (λ keys. keys.items ≡ map (key_of precedence.now) letters) }
+{
+    let sent = precedence.sent;
+    let keys = letter_keys(alloc, precedence.seed, sent.tick, sent.diasca, names)?;
+    Ok(keys)
 }

@@ -23,7 +23,7 @@ const FEWEST: usize = 3;
 
 /// The keys of letters that were sent at a tick and a diasca under a seed, in the order of the letters:
 /// each is what `letter_key` gives. Fewer than three are made one by one, more of them four at a time.
-/// Err is want of memory, and never comes for no letters.
+/// Err is want of memory.
 pub fn letter_keys(
     alloc: Global,
     seed: u64,

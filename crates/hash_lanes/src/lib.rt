@@ -6,5 +6,6 @@ mod consts;
 mod keys;
 mod lanes;
 mod rounds;
+mod threads;
 
 pub use batch::{LetterName, letter_keys};

@@ -15,27 +15,29 @@ use Rattle.actor_trait.specs.declared.outcome.Outcome.{Outcome}
 abbrev pub ball_to : ActorId → ℤ → Parcel
 ball_to to hits = record { to = to; payload = record { code = 1; a = hits; b = pos 0 } }
 
+-- a letter that is a ball
 abbrev pub is_ball : Letter → Bool
 is_ball l = l.payload.code == 1
 
 -- a ball that comes is counted, at most to the last of an i64
-abbrev pub caught : BallFields → Letter → BallFields
-caught s l = if is_ball l then record s { received = saturate_signed w64 (s.received +ℤ pos 1) } else s
+abbrev pub catch : BallFields → Letter → BallFields
+catch s l = if is_ball l then record s { received = saturate_signed w64 (s.received +ℤ pos 1) } else s
 
 -- a ball with hits left when one is taken away
 abbrev pub goes_back : Letter → Bool
 goes_back l = is_ball l && int_lt (pos 1) l.payload.a
 
 -- it goes back to its sender with one hit less
-abbrev pub returned : Letter → List Parcel
-returned l = if goes_back l then ball_to l.from (l.payload.a -ℤ pos 1) ∷ [] else []
+abbrev pub ball_back : Letter → List Parcel
+ball_back l = if goes_back l then ball_to l.from (l.payload.a -ℤ pos 1) ∷ [] else []
 
+-- it asks for its tick at its first event, serves when that comes, and returns what it catches
 abbrev pub ball_acts : BallFields → Context → Seen → Outcome BallFields
 ball_acts s c e =
-    let after = fold caught s e.inbox in
+    let after = fold catch s e.inbox in
     record {
       state = after;
-      sends = (if e.spontaneous then ball_to s.peer s.hits ∷ [] else []) ++ flat_map returned e.inbox;
+      sends = (if e.spontaneous then ball_to s.peer s.hits ∷ [] else []) ++ flat_map ball_back e.inbox;
       ticks = (if e.first && int_lt (pos 0) s.hits then s.at ∷ [] else []);
       births = [];
       samples = (if list_any is_ball e.inbox then record { probe = 0; value = after.received } ∷ [] else []);

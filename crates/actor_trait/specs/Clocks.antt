@@ -12,12 +12,13 @@ abbrev pub next_beat : ClockFields → Context → List ℕ
 next_beat s c = if int_lt s.beats s.count then min (c.now.tick + s.period) (2 ^ 64 - 1) ∷ [] else []
 
 -- one beat more, at most the last of an i64
-abbrev pub beaten : ClockFields → Bool → ClockFields
-beaten s spontaneous = record s { beats = if spontaneous then saturate_signed w64 (s.beats +ℤ pos 1) else s.beats }
+abbrev pub beat : ClockFields → Bool → ClockFields
+beat s spontaneous = record s { beats = if spontaneous then saturate_signed w64 (s.beats +ℤ pos 1) else s.beats }
 
+-- it asks for its first beat at its first event, and for the next one at each beat
 abbrev pub clock_acts : ClockFields → Context → Seen → Outcome ClockFields
 clock_acts s c e =
-    let after = beaten s e.spontaneous in
+    let after = beat s e.spontaneous in
     record {
       state = after;
       sends = [];

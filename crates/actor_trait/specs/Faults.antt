@@ -15,10 +15,11 @@ code_of n = if nat_le 1 n && nat_le n 899 then Some n else None
 abbrev pub asks_past : ℕ → List ℕ → Bool
 asks_past now ticks = list_any (λ t. nat_le t now) ticks
 
+-- more than 1,024
 abbrev pub is_too_many : {X : Type 0} → List X → Bool
 is_too_many xs = nat_lt 1024 (length xs)
 
--- more than 1,024 of one list
+-- too many letters, ticks, births or samples
 abbrev pub gives_too_many : {A : Type 0} → Outcome A → Bool
 gives_too_many o = is_too_many o.sends || is_too_many o.ticks || is_too_many o.births || is_too_many o.samples
 
@@ -26,6 +27,7 @@ gives_too_many o = is_too_many o.sends || is_too_many o.ticks || is_too_many o.b
 abbrev pub samples_unknown : ℕ → List Sample → Bool
 samples_unknown probes samples = list_any (λ s. nat_le probes s.probe) samples
 
+-- a code where it is shown
 abbrev pub when : Bool → ℕ → Option ℕ
 when shown code = if shown then Some code else None
 

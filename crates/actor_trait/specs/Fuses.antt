@@ -10,6 +10,7 @@ use Rattle.actor_trait.specs.declared.outcome.Outcome.{Outcome}
 abbrev pub burns : FuseFields → Seen → Bool
 burns s e = (e.first && (s.at == 0)) || e.spontaneous
 
+-- it asks for its tick at its first event, and shows its fault when it burns
 abbrev pub fuse_acts : FuseFields → Context → Seen → Outcome FuseFields
 fuse_acts s c e = record {
   state = s;

@@ -39,12 +39,12 @@ impl Model for Ball {
 
 impl Ball {
     ghost use Rattle.std.specs.List.{flat_map, fold};
-    ghost use Rattle.actor_trait.specs.Balls.{caught, returned};
+    ghost use Rattle.actor_trait.specs.Balls.{catch, ball_back};
 
     /// Counts a ball and returns it while hits are left; any other letter is ignored.
     fn catch(&mut self, letter: &Letter, sends: &mut Items<Parcel>) -> Result<(), Memory>
-        ensures state { OnOk result (self.new ≡ caught self.old letter.now) }
-        ensures sends { OnOk result (sends.new ≡ sends.old ++ returned letter.now) }
+        ensures state { OnOk result (self.new ≡ catch self.old letter.now) }
+        ensures sends { OnOk result (sends.new ≡ sends.old ++ ball_back letter.now) }
     {
         if letter.payload.code == BALL {
             self.received = self.received.saturating_add(1);
@@ -57,8 +57,8 @@ impl Ball {
     }
 
     fn catch_all(&mut self, inbox: &[Letter], sends: &mut Items<Parcel>) -> Result<(), Memory>
-        ensures state { OnOk result (self.new ≡ fold caught self.old inbox.now) }
-        ensures sends { OnOk result (sends.new ≡ sends.old ++ flat_map returned inbox.now) }
+        ensures state { OnOk result (self.new ≡ fold catch self.old inbox.now) }
+        ensures sends { OnOk result (sends.new ≡ sends.old ++ flat_map ball_back inbox.now) }
     {
         for letter in inbox {
             self.catch(letter, sends)?;

@@ -13,6 +13,7 @@ mod fuse;
 mod letter;
 mod outcome;
 mod precedence;
+mod threads;
 
 pub use actor::Actor;
 pub use ball::Ball;

@@ -1,10 +1,12 @@
 use crate::{FaultCode, Parcel};
 use sim_base::Items;
 
-/// A value of one of the actor's probes, which are numbered from 0.
+/// A value of one of the actor's probes.
 #[derive(Clone, Copy, Debug, PartialEq, Eq)]
 pub struct Sample {
+    /// The number of the probe among those that the kind declares, from 0.
     pub probe: u32,
+    /// What it shows.
     pub value: i64,
 }
 

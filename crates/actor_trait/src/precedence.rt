@@ -1,7 +1,6 @@
 ghost use Rattle.std.specs.Prelude.{◌≡◌};
 
 use crate::Letter;
-use hash_seed::{Key, letter_key};
 use sim_base::{ActorId, Moment};
 use std::marker::Model;
 
@@ -28,7 +27,7 @@ impl<'a> Model for Precedence<'a> {
 }
 
 impl<'a> Precedence<'a> {
-    ghost use Rattle.actor_trait.specs.InboxOrder.{is_urgent, key_of, rank_of};
+    ghost use Rattle.actor_trait.specs.InboxOrder.{is_urgent, rank_of};
 
     /// Whether the letters of a sender come before those of others.
     pub fn is_urgent(&self, sender: ActorId) -> bool
@@ -43,19 +42,5 @@ impl<'a> Precedence<'a> {
         ensures { result ≡ rank_of self.now letter.now }
     {
         if self.is_urgent(letter.from) { 0 } else { 1 }
-    }
-
-    /// The key of a letter.
-    pub fn key_of(&self, letter: &Letter) -> Key
-        ensures { result ≡ key_of self.now letter.now }
-    {
-        letter_key(
-            self.seed,
-            self.sent.tick,
-            self.sent.diasca,
-            letter.to.0,
-            letter.from.0,
-            letter.serial,
-        )
     }
 }

@@ -15,12 +15,15 @@ use Rattle.soda_model.specs.declared.buyer.Buyer.{Buyer}
 abbrev pub buys : Buyer → Seen → Bool
 buys b e = e.spontaneous && not (int_lt b.money b.offer)
 
+-- its offer leaves its money
 abbrev pub pay : Buyer → Buyer
 pay b = record b { money = saturate_signed w64 (b.money -ℤ b.offer) }
 
+-- money that comes back, as change or as a refund
 abbrev pub with_money : Buyer → ℤ → Buyer
 with_money b money = record b { money = saturate_signed w64 (b.money +ℤ money) }
 
+-- one can more
 abbrev pub with_can : Buyer → Buyer
 with_can b = record b { cans = saturate_signed w64 (b.cans +ℤ pos 1) }
 
@@ -42,9 +45,11 @@ abbrev pub ask : Context → ℕ → Bool → Bool → List ℕ
 ask c wait first buys =
     (if first then tick_after c wait ∷ [] else []) ++ (if buys then tick_after c wait ∷ [] else [])
 
+-- its cans and its money
 abbrev pub buyer_samples : Buyer → List Sample
 buyer_samples b = record { probe = 0; value = b.cans } ∷ record { probe = 1; value = b.money } ∷ []
 
+-- it pays where it buys, then takes its answers in one after the other
 abbrev pub buyer_acts : Buyer → ℕ → Context → Seen → Outcome Buyer
 buyer_acts b wait c e =
     let after = fold answer (if buys b e then pay b else b) e.inbox in

@@ -22,6 +22,7 @@ hear s l = if is_birth l then record s { born = saturate_signed w64 (s.born +ℤ
 abbrev pub refill_of : DepotFields → RefillFields
 refill_of s = record { machine = s.machine; cans = s.cans }
 
+-- it asks for its tick at its first event, and bears its refills when that comes
 abbrev pub depot_bears : DepotFields → Context → Seen → Bearing DepotFields RefillFields
 depot_bears s c e =
     let after = fold hear s e.inbox in

@@ -24,5 +24,6 @@ refund_to customer money cause = parcel customer 12 money cause
 abbrev pub fill_to : ActorId → ℤ → Parcel
 fill_to machine cans = parcel machine 13 cans (pos 0)
 
+-- whether a letter has this code
 abbrev pub has_code : ℕ → Letter → Bool
 has_code code l = l.payload.code == code

@@ -45,12 +45,15 @@ serve t l =
     if has_code 10 l then buy t l.from l.payload.a
     else (if has_code 13 l then record t { machine = fill t.machine l.payload.a } else t)
 
+-- a letter that a machine acts on
 abbrev pub is_asked : Letter → Bool
 is_asked l = has_code 10 l || has_code 13 l
 
+-- its stock and its coins
 abbrev pub machine_samples : MachineFields → List Sample
 machine_samples s = record { probe = 0; value = s.stock } ∷ record { probe = 1; value = s.coins } ∷ []
 
+-- it takes its inbox in, asks for its closing time at its first event, and retires when that comes
 abbrev pub machine_acts : MachineFields → Context → Seen → Outcome MachineFields
 machine_acts s c e =
     let after = fold serve (record { machine = s; sends = [] }) e.inbox in

@@ -50,10 +50,10 @@ impl Depot {
     pub fn bear(
         &self,
         alloc: Global,
-        _context: &Context,
+        context: &Context,
         event: &Event<'_>,
     ) -> Result<Bearing<Depot, Refill>, Memory>
-        ensures { IfOk result (λ bearing. bearing ≡ depot_bears self.now _context.entry.now (seen event.now.first event.now.spontaneous event.now.inbox.now)) }
+        ensures { IfOk result (λ bearing. bearing ≡ depot_bears self.now context.entry.now (seen event.now.first event.now.spontaneous event.now.inbox.now)) }
     {
         let mut ticks = Items::new(alloc);
         let mut samples = Items::new(alloc);

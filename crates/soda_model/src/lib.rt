@@ -10,6 +10,7 @@ mod letters;
 mod machine;
 mod random_customer;
 mod refill;
+mod threads;
 
 pub use customer::Customer;
 pub use depot::Depot;

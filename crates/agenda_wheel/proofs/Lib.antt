@@ -1,0 +1,17 @@
+pub mod Linking
+pub mod Splicing
+pub mod Freeing
+pub mod Sets
+pub mod Dropping
+pub mod Filling
+pub mod Adding
+pub mod Walking
+pub mod Pigeons
+pub mod Finding
+pub mod Totals
+pub mod Seeing
+pub mod Firsts
+pub mod Looking
+pub mod Taking
+pub mod Growing
+pub mod Whole

@@ -1,0 +1,6 @@
+pub mod Linked
+pub mod Nodes
+pub mod Wheel
+pub mod Slots
+pub mod Kept
+pub mod Seen

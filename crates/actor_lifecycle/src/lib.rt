@@ -2,8 +2,8 @@
 //! the letters that tell of them, and those who leave.
 #![tactic(auto)]
 
+mod law;
 mod settling;
-#[cfg(test)]
-mod tests;
 
+pub use law::each_moment_can_be_settled;
 pub use settling::settle;

@@ -1,13 +1,12 @@
 -- Who is among these actors.
-use Rattle.std.proofs.Common.{◌≡◌, ◌<◌, Bool, true, false, ◌||◌, not, nat_eq, length, List, [], ◌∷◌, arith, refl, sym, ap, ◌∙◌}
+use Rattle.std.proofs.Common.{◌≡◌, ◌<◌, Bool, true, false, ◌||◌, nat_eq, List, [], ◌∷◌, refl, ap, ◌∙◌}
 use Rattle.std.specs.BTreeSet.{insert_key}
-use Rattle.std.specs.List.{filter, fold}
+use Rattle.std.specs.List.{fold}
 use Rattle.std.specs.Ordering.{MatchOrdering, match_ordering}
 use Rattle.std.specs.declared.cmp.Ordering.{Ordering}
 use Rattle.std.specs.declared.cmp.Ordering.TheVariants.{Less, Equal, Greater}
 use Rattle.std.proofs.lemmas.Cmp.{ranked}
 use Rattle.sim_base.specs.declared.ids.ActorId.{ActorId}
-use Rattle.sim_model.specs.declared.agenda.Due.{Due}
 use Rattle.sim_model.specs.Moment.{actor_cmp, in_order_once, is_among}
 
 once : (a b r : Bool) → a ≡ b → (b || r) ≡ (a || (b || r))
@@ -48,12 +47,3 @@ among-fold (k ∷ ids) done id =
 
 pub among-in_order : (ids : List ActorId) (id : ActorId) → is_among (in_order_once ids) id ≡ is_among ids id
 among-in_order ids id = among-fold ids [] id ∙ or_none (is_among ids id)
-
--- where nobody is among the actors, all stays
-pub all_kept : (ds : List Due) → filter (λ d. not (is_among [] d.actor)) ds ≡ ds
-all_kept [] = refl
-all_kept (d ∷ ds) = ap (λ l. d ∷ l) (all_kept ds)
-
-pub all_kept_by : (ids : List ActorId) (ds : List Due) → length ids ≡ 0 → ds ≡ filter (λ d. not (is_among ids d.actor)) ds
-all_kept_by [] ds e = sym (all_kept ds)
-all_kept_by (id ∷ ids) ds e = absurd (omega (arith, e))

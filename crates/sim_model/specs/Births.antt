@@ -27,9 +27,9 @@ abbrev pub next_after : {A : Type 0} → ℕ → List (Report A) → ℕ
 next_after next [] = next
 next_after next (r ∷ rs) = next_after (next + length r.outcome.births) rs
 
--- whether one of the births of a report has a number past the last
-abbrev pub bears_past : {A : Type 0} → ℕ → ℕ → Report A → Bool
-bears_past last next r = nat_lt 0 (length r.outcome.births) && nat_lt (last + 1) (next + length r.outcome.births)
+-- whether one of so many births, the first of which has the next number, has a number that no actor may have
+abbrev pub bears_past : ℕ → ℕ → ℕ → Bool
+bears_past max_actors next births = nat_lt 0 births && nat_lt (max_actors + 1) (next + births)
 
 -- the letter that tells a creator of a birth: code 0, the place in its list, and the new number
 abbrev pub birth_letter : {A : Type 0} → Newborn A → Letter

@@ -9,9 +9,13 @@ use std::alloc::Global;
 /// An actor that was ever in a run: its number, its name, its kind, and its probes' names.
 #[derive(Drop)]
 pub struct Member {
+    /// Its number.
     pub id: ActorId,
+    /// Its name.
     pub name: Name,
+    /// The name of its kind.
     pub kind: Name,
+    /// The names of its probes, which are numbered from 0.
     pub probes: Items<Name>,
 }
 

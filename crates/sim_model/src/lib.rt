@@ -2,27 +2,32 @@
 //! that computes the run of a setup. The whole engine is measured by them.
 #![tactic(auto)]
 
-mod agenda;
 mod births;
 mod cast;
 mod closing;
+mod crossing;
+mod due_set;
+mod ids;
+mod laws;
 mod letters;
 mod moment;
 mod next;
+mod parameters;
 mod report;
 mod run;
 mod settled;
 mod setup;
-#[cfg(test)]
-mod tests;
+mod stage;
 mod world;
 
-pub use agenda::{Agenda, Due};
-pub use births::{Newborn, add_birth_letters, bear_all, count_births};
+pub use births::{Newborn, bear_all, birth_letters, count_births, retired};
 pub use cast::Member;
+pub use laws::{each_run_ends, each_run_goes_on, each_world_is_whole};
 pub use next::Next;
+pub use parameters::Parameters;
 pub use report::{Fault, Report};
-pub use run::{Ended, Progress, Results, Underway, each_run_ends, plain_run};
+pub use run::{Results, plain_run};
 pub use settled::Settled;
 pub use setup::{Setup, Start};
-pub use world::World;
+pub use stage::{Ended, Stage, Underway};
+pub use world::WorldState;

@@ -1,13 +1,15 @@
-ghost use Rattle.std.specs.Prelude.{◌≡◌, ◌<◌, ◌≤◌, length, map, IfOk, Some};
-ghost use Rattle.sim_model.specs.Agendas.{Rises};
-ghost use Rattle.sim_model.specs.Moment.{fault_of_moment, next_id};
-ghost use Rattle.sim_model.specs.Run.{IsRun, RunEnds, follow, judge, results_of, start, step};
+ghost use Rattle.std.specs.Prelude.{◌≡◌, ◌<◌, map, IfOk, Some};
+ghost use Rattle.std.specs.List.{AllPairs};
+ghost use Rattle.sim_model.specs.Moment.{fault_of_moment};
+ghost use Rattle.sim_model.specs.Run.{IsRun, follow, judge, opening, results_of, step};
+ghost use Rattle.sim_model.specs.Stepping.{RisesFrom};
+ghost use Rattle.sim_model.specs.Whole.{IsWhole};
 
 use crate::births::count_births;
 use crate::cast::opening_cast;
-use crate::closing::{add_rows, close_all};
-use crate::moment::{enter_at, report_all, what_next};
-use crate::{Agenda, Fault, Member, Next, Report, Setup, Start, World};
+use crate::closing::add_rows;
+use crate::due_set::DueSet;
+use crate::{Ended, Fault, Member, Next, Report, Setup, Stage, Start, Underway, WorldState};
 use actor_trait::Actor;
 use sim_base::{Ending, Items, Memory, Moment, Row};
 use std::alloc::Global;
@@ -19,37 +21,12 @@ pub struct Results {
     pub rows: Items<Row>,
     /// Every actor that was ever there, ascending.
     pub cast: Items<Member>,
+    /// How it ended.
     pub ending: Ending,
     /// The moment entered last, which is the faulted one after a fault.
     pub last: Moment,
-    /// How many letters found their recipient gone.
+    /// How many letters found no living recipient; the count stands still at the end of u64.
     pub dead_letters: u64,
-}
-
-/// A run before it enters a moment.
-#[derive(Drop)]
-pub struct Underway<A> {
-    pub at: Moment,
-    pub world: World<A>,
-    pub rows: Items<Row>,
-}
-
-/// A run that is over.
-#[derive(Drop)]
-pub struct Ended<A> {
-    /// The moment entered last.
-    pub at: Moment,
-    pub ending: Ending,
-    /// The world at that moment: closed, or entered where it shows a fault.
-    pub world: World<A>,
-    pub rows: Items<Row>,
-}
-
-/// How far a run has come.
-#[derive(Drop)]
-pub enum Progress<A> {
-    Going(Underway<A>),
-    Over(Ended<A>),
 }
 
 fn first_states<A: Actor + Drop>(
@@ -65,14 +42,16 @@ fn first_states<A: Actor + Drop>(
     Ok(Items::of(states))
 }
 
-fn begin<A: Actor + Drop>(alloc: Global, setup: &Setup<A>) -> Result<Underway<A>, Memory>
-    ensures { IfOk result (λ u. u ≡ start A.meaning setup.now) }
+fn opening<A: Actor + Drop>(alloc: Global, setup: &Setup<A>) -> Result<Underway<A>, Memory>
+    ensures { IfOk result (λ u. u ≡ opening A.meaning setup.now) }
 {
     Ok(Underway {
-        at: Moment { tick: 0, diasca: 0 },
-        world: World {
+        last: None,
+        next: Moment { tick: 0, diasca: 0 },
+        world: WorldState {
+            parameters: setup.parameters(alloc)?,
             states: first_states(alloc, setup.actors.as_slice())?,
-            agenda: Agenda::new(alloc),
+            agenda: DueSet::new(alloc),
             letters: Items::new(alloc),
             newborn: Items::new(alloc),
             scheduled: Items::new(alloc),
@@ -83,13 +62,18 @@ fn begin<A: Actor + Drop>(alloc: Global, setup: &Setup<A>) -> Result<Underway<A>
     })
 }
 
-fn follow_on<A: Drop>(at: Moment, world: World<A>, rows: Items<Row>, next: Next) -> Progress<A>
-    ensures { result ≡ follow at world rows next }
+fn follow<A: Drop>(last: Moment, world: WorldState<A>, rows: Items<Row>, next: Next) -> Stage<A>
+    ensures { result ≡ follow last world rows next }
 {
     match next {
-        Next::Enters(at) => Progress::Going(Underway { at, world, rows }),
-        Next::Ends(ending) => Progress::Over(Ended {
-            at,
+        Next::Enters(next) => Stage::Going(Underway {
+            last: Some(last),
+            next,
+            world,
+            rows,
+        }),
+        Next::Ends(ending) => Stage::Over(Ended {
+            last,
             ending,
             world,
             rows,
@@ -97,57 +81,56 @@ fn follow_on<A: Drop>(at: Moment, world: World<A>, rows: Items<Row>, next: Next)
     }
 }
 
-fn judge_all<A: Actor + Drop>(
+fn judge<A: Actor + Drop>(
     alloc: Global,
-    setup: &Setup<A>,
     at: Moment,
-    entered: World<A>,
+    entered: WorldState<A>,
     rows: Items<Row>,
     reports: Items<Report<A>>,
-) -> Result<Progress<A>, Memory>
-    requires count { length entered.states ≤ setup.now.max_actors }
-    requires diasca { at.diasca < setup.now.diasca_limit }
-    ensures { IfOk result (λ p. p ≡ judge A.meaning setup.now at entered rows reports
-        (fault_of_moment A.meaning setup.now.max_actors (next_id entered) at reports)) }
+) -> Result<Stage<A>, Memory>
+    requires whole { IsWhole A.meaning entered }
+    requires diasca { at.diasca < entered.parameters.diasca_limit }
+    requires ascending { AllPairs (λ r q. r.id.0 < q.id.0) reports }
+    ensures { IfOk result (λ p. p ≡ judge A.meaning at entered rows reports (fault_of_moment A.meaning entered at reports)) }
 {
-    let last = setup.max_actors;
-    let first = entered.states.len() as u32 + 1;
-    let count = match count_births(reports.as_slice(), last, first, at) {
+    let max_actors = entered.parameters.max_actors;
+    let count = match count_births(reports.as_slice(), max_actors, entered.next_id(), at) {
         Ok(count) => count,
         Err(Fault { actor, code }) => {
             let ending = Ending::Fault { actor, code };
-            return Ok(follow_on(at, entered, rows, Next::Ends(ending)));
+            return Ok(follow(at, entered, rows, Next::Ends(ending)));
         }
     };
     let rows = add_rows(rows, at, reports.as_slice())?;
-    let closed = close_all(alloc, entered, reports, first, count)?;
-    let next = what_next(setup, at, &closed);
-    Ok(follow_on(at, closed, rows, next))
+    let mut world = entered;
+    world.close(alloc, reports, count)?;
+    let next = world.what_comes_next(at);
+    Ok(follow(at, world, rows, next))
 }
 
 #[tactic(auto, unfolding(crate::specs::Run::step))]
-fn advance<A: Actor + Drop>(
-    alloc: Global,
-    setup: &Setup<A>,
-    underway: Underway<A>,
-) -> Result<Progress<A>, Memory>
-    requires count { length underway.world.states ≤ setup.now.max_actors }
-    requires diasca { underway.at.diasca < setup.now.diasca_limit }
-    requires agenda { Rises underway.at.tick underway.world.agenda }
-    ensures { IfOk result (λ p. p ≡ step A.meaning setup.now underway) }
+fn step<A: Actor + Drop>(alloc: Global, underway: Underway<A>) -> Result<Stage<A>, Memory>
+    requires whole { IsWhole A.meaning underway.world }
+    requires diasca { underway.next.diasca < underway.world.parameters.diasca_limit }
+    requires agenda { RisesFrom underway.next.tick underway.world.agenda }
+    ensures { IfOk result (λ p. p ≡ step A.meaning underway) }
 {
-    let Underway { at, world, rows } = underway;
-    let seed = setup.seed;
-    let entered = enter_at(alloc, world, at)?;
-    let reports = report_all(alloc, seed, at, &entered)?;
-    judge_all(alloc, setup, at, entered, rows, reports)
+    let Underway {
+        last: _,
+        next: at,
+        mut world,
+        rows,
+    } = underway;
+    let inboxes = world.enter(alloc, at)?;
+    let reports = world.reports(alloc, at, &inboxes)?;
+    judge(alloc, at, world, rows, reports)
 }
 
 fn give_results<A: Drop>(ended: Ended<A>) -> Results
     ensures { result ≡ results_of ended }
 {
     let Ended {
-        at,
+        last,
         ending,
         world,
         rows,
@@ -156,7 +139,7 @@ fn give_results<A: Drop>(ended: Ended<A>) -> Results
         rows,
         cast: world.cast,
         ending,
-        last: at,
+        last,
         dead_letters: world.dead_letters,
     }
 }
@@ -166,18 +149,11 @@ pub fn plain_run<A: Actor + Drop>(alloc: Global, setup: &Setup<A>) -> Result<Res
     ensures { IfOk result (λ r. IsRun A.meaning setup.now r) }
 {
     let _last = setup.last_tick;
-    let mut underway = begin(alloc, setup)?;
+    let mut underway = opening(alloc, setup)?;
     loop {
-        match advance(alloc, setup, underway)? {
-            Progress::Going(next) => underway = next,
-            Progress::Over(ended) => return Ok(give_results(ended)),
+        match step(alloc, underway)? {
+            Stage::Going(next) => underway = next,
+            Stage::Over(ended) => return Ok(give_results(ended)),
         }
     }
-}
-
-/// The run of every setup ends: a law of the definitions, with nothing to do at run time.
-pub fn each_run_ends<A: Actor>(setup: &Setup<A>)
-    ensures { RunEnds A.meaning setup.now }
-{
-    let _last = setup.last_tick;
 }

@@ -1,6 +1,7 @@
 use Rattle.std.proofs.Common.{◌≡◌, take}
-use Rattle.sim_model.specs.Agendas.{ask}
+use Rattle.std.specs.List.{fold}
+use Rattle.sim_model.specs.Moment.{ask_of}
 use Rattle.sim_model.proofs.closing.ask_all.Given as goal
 
-abbrev pub invariant-loop-tick : goal.invariant-loop-tick
-invariant-loop-tick l = l.agenda ≡ ask l.actor l.fn.agenda (take l.tick-index l.ticks)
+abbrev pub invariant-loop-report : goal.invariant-loop-report
+invariant-loop-report g l = l.agenda ≡ fold ask_of l.fn.agenda (take l.report-index l.reports)

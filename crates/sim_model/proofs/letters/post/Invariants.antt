@@ -1,8 +1,8 @@
 use Rattle.std.proofs.Common.{◌≡◌, drop, ◌++◌}
-use Rattle.sim_model.specs.Moment.{posted}
+use Rattle.sim_model.specs.Moment.{post}
 use Rattle.sim_model.proofs.letters.post.Given as goal
 
 abbrev pub invariant-loop-parcel : goal.invariant-loop-parcel
 invariant-loop-parcel l =
     (l.serial ≡ l.parcel-index)
-    × (l.letters.items ++ posted l.from l.serial (drop l.parcel-index l.parcels) ≡ l.fn.letters.items ++ posted l.from 0 l.parcels)
+    × (l.letters.items ++ post l.from l.serial (drop l.parcel-index l.parcels) ≡ l.fn.letters.items ++ post l.from 0 l.parcels)

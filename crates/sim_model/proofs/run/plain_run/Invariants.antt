@@ -1,10 +1,12 @@
 use Rattle.std.proofs.Common.{◌-◌}
 use Rattle.sim_model.specs.Run.{most_moments}
-use Rattle.sim_model.proofs.Forward.{Reached, rank}
+use Rattle.sim_model.specs.Setups.{parameters_of}
+use Rattle.sim_model.proofs.Forward.{rank}
+use Rattle.sim_model.proofs.Reaching.{Reached}
 use Rattle.sim_model.proofs.run.plain_run.Given as goal
 
 abbrev pub invariant-loop-next : goal.invariant-loop-next
 invariant-loop-next g l = Reached g.A.Actor.meaning l.setup l.underway
 
 abbrev pub decreases-loop-next : goal.decreases-loop-next
-decreases-loop-next g l = most_moments l.setup - rank l.setup l.underway.at
+decreases-loop-next g l = most_moments l.setup - rank (parameters_of l.setup) l.underway.next

@@ -1,7 +1,0 @@
-use Rattle.std.proofs.Common.{subst}
-use Rattle.sim_model.specs.Setups.{IsSetup}
-use Rattle.sim_model.proofs.Forward.{run_ends}
-use Rattle.sim_model.proofs.run.each_run_ends.Goals as goal
-
-pub returns : goal.returns
-returns g c = run_ends g.A.Actor.meaning c.args.setup.now (subst (λ s. IsSetup s) c.setup.view_is c.setup.invariant)

@@ -1,0 +1,85 @@
+ghost use Rattle.std.specs.Prelude.{◌≡◌, ◌++◌, [], map, IsTrue, OnOk, OnErr};
+ghost use Rattle.std.specs.List.Sorted.{IsSortedBy};
+ghost use Rattle.probes.specs.LiveOrder.{comes_before, ends_before, row_of};
+
+use crate::order::is_before;
+use actor_trait::Sample;
+use sim_base::{ActorId, Memory, Moment, Row};
+use std::alloc::Global;
+use std::marker::Model;
+
+/// Rows that rise by moment, then by actor. Contracts see the list of them.
+#[derive(Drop)]
+pub struct Buffer {
+    rows: Vec<Row>,
+}
+
+impl Model for Buffer {
+    ghost use Rattle.std.specs.Prelude.{List};
+    ghost use Rattle.std.specs.List.Sorted.{IsSortedBy};
+    ghost use Rattle.sim_base.specs.declared.moment.Row.{Row};
+    ghost use Rattle.probes.specs.LiveOrder.{comes_before};
+
+    ghost Value = { List Row };
+
+    ghost view = { λ b. b.rows.items };
+
+    ghost invariant = { λ b. IsSortedBy comes_before b.rows.items };
+}
+
+impl Buffer {
+    /// The buffer without rows. It takes no memory, and grows by this allocator.
+    pub fn new(alloc: Global) -> Buffer
+        ensures { result ≡ [] }
+    {
+        Buffer {
+            rows: Vec::new(alloc),
+        }
+    }
+
+    /// The rows, in live order.
+    pub fn as_slice(&self) -> &[Row]
+        ensures rows { result.now ≡ self.now }
+        ensures live { IsSortedBy comes_before result.now }
+    {
+        self.rows.as_slice()
+    }
+
+    /// Whether the last row is of an earlier moment, or of the same one and a lesser actor; also where
+    /// there is no row. Then the samples of this actor's event can be added.
+    pub fn ends_before(&self, at: Moment, id: ActorId) -> bool
+        ensures { result ≡ ends_before self.now at id }
+    {
+        match self.rows.last() {
+            Some(row) => is_before(row, at, id),
+            None => true,
+        }
+    }
+
+    /// Appends what an actor sampled at a moment, in order; for no samples it takes no memory. Err is
+    /// want of memory, and changes nothing.
+    pub fn add(&mut self, at: Moment, id: ActorId, samples: &[Sample]) -> Result<(), Memory>
+        requires { IsTrue (ends_before self.old at id) }
+        ensures ok { OnOk result (self.new ≡ self.old ++ map (row_of at id) samples.now) }
+        ensures err { OnErr result (self.new ≡ self.old) }
+    {
+        append(&mut self.rows, at, id, samples)
+    }
+}
+
+/// Appends the rows of an event.
+fn append(rows: &mut Vec<Row>, at: Moment, id: ActorId, samples: &[Sample]) -> Result<(), Memory>
+    ensures ok { OnOk result (rows.new.items ≡ rows.old.items ++ map (row_of at id) samples.now) }
+    ensures err { OnErr result (rows.new.items ≡ rows.old.items) }
+{
+    rows.reserve(samples.len())?;
+    for sample in samples {
+        rows.push_reserved(Row {
+            at,
+            actor: id,
+            probe: sample.probe,
+            value: sample.value,
+        });
+    }
+    Ok(())
+}

@@ -1,0 +1,11 @@
+//! What is sampled in a run: a buffer for each manager, in which rows only rise, and all buffers merged
+//! into the rows of the run, in live order.
+#![tactic(auto)]
+
+mod buffer;
+mod merging;
+mod order;
+mod threads;
+
+pub use buffer::Buffer;
+pub use merging::merge;

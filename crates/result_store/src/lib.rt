@@ -5,8 +5,7 @@ mod chains;
 mod pattern;
 mod rules;
 mod run_text;
-#[cfg(test)]
-mod tests;
+mod threads;
 
 pub use rules::{Rules, RulesFault};
 pub use run_text::text;

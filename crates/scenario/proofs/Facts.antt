@@ -387,7 +387,7 @@ scenario_in-ok d p h =
     let actors = both (actors_of items.value) _ p items.second in
     let l = limits.value in
     let made : ScenarioParts = record {
-      setup = record { seed = l.seed; last_tick = l.last_tick; diasca_limit = l.diasca_limit; max_actors = l.max_actors; actors = actors.value };
+      setup = record { seed = l.seed; last_tick = l.last_tick; diasca_limit = l.diasca_limit; max_actors = l.max_actors; actors = actors.value; urgent = [] };
       rules = rules.value;
       texts = texts.value;
     } in
@@ -395,7 +395,9 @@ scenario_in-ok d p h =
     let few : length actors.value ≤ l.max_actors = omega (arith, all.2, items_in-ok l.max_actors _ items.value items.first) in
     let ranges = limits_of-ok d l limits.first in
     subst IsScenario (ok_same made p actors.second) (record {
-      setup = record { seed = ranges.seed; last_tick = ranges.last_tick; some_diasca = ranges.some_diasca; diasca_limit = ranges.diasca_limit; some_actor = ranges.some_actor; max_actors = ranges.max_actors; actors = few };
+      setup = record { seed = ranges.seed; last_tick = ranges.last_tick; some_diasca = ranges.some_diasca; diasca_limit = ranges.diasca_limit; some_actor = ranges.some_actor; max_actors = omega (arith, ranges.max_actors); actors = few; urgent = (λ k within. absurd (omega arith)); known = (λ i d within. absurd (omega arith)) };
+      room = ranges.max_actors;
+      urgent = refl;
       few_rules = texts_of-ok _ texts.value texts.first;
       rules = good_rules (rules_of texts.value) rules.value rules.first;
       names = all.0;

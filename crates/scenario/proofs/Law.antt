@@ -226,7 +226,7 @@ limits_read p h =
       within (place_of 0 (codes "seed")) 0 18446744073709551615 p.setup.seed (omega arith) h.setup.seed,
       within (place_of 0 (codes "last_tick")) 0 most p.setup.last_tick (omega arith) h.setup.last_tick,
       within (place_of 0 (codes "diasca_limit")) 1 65535 p.setup.diasca_limit h.setup.some_diasca h.setup.diasca_limit,
-      within (place_of 0 (codes "max_actors")) 1 200000 p.setup.max_actors h.setup.some_actor h.setup.max_actors,
+      within (place_of 0 (codes "max_actors")) 1 200000 p.setup.max_actors h.setup.some_actor h.room,
     )
 
 pub scenario_in-tree_for : (p : ScenarioParts) → IsScenario p → scenario_in (tree_for p) ≡ Ok p
@@ -239,4 +239,5 @@ scenario_in-tree_for p h =
       items_len-trees (map (λ s. s.name) p.setup.actors) p.setup.actors,
       le-leb (length p.setup.actors) p.setup.max_actors h.setup.actors,
       actors_read p.setup.actors h.names h.states,
+      sym h.urgent,
     )

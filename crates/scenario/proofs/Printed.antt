@@ -5,7 +5,7 @@ use Rattle.serde_json.specs.Find.{of_integer, is_float}
 use Rattle.serde_json.specs.Read.{max_depth}
 use Rattle.serde_json.specs.Written.{has_float, items_have_float}
 use Rattle.sim_model.specs.declared.setup.Start.{Start}
-use Rattle.scenario.specs.Print.{start_trees, state_tree, text_trees, tree_for}
+use Rattle.scenario.specs.Print.{start_trees, state_tree, text_trees, tree_for, whole_tree}
 use Rattle.scenario.specs.ScenarioParts.{ScenarioParts}
 use Rattle.scenario.specs.declared.any_actor.AnyActor.{AnyActor}
 use Rattle.scenario.specs.declared.any_actor.AnyActor.TheVariants.{Clock, Ball, Fuse, Machine, Customer, RandomCustomer, Refill, Depot}
@@ -63,8 +63,6 @@ shallow p = omega (arith, starts_flat (map (λ s. s.name) p.setup.actors) p.setu
 pub tree_for-parts : (p : ScenarioParts) (l : Limits) (ss : List (Start AnyActor)) (ts : List (List ℕ)) (actors results : Items)
     → l.seed ≡ p.setup.seed → l.last_tick ≡ p.setup.last_tick → l.diasca_limit ≡ p.setup.diasca_limit → l.max_actors ≡ p.setup.max_actors → ss ≡ p.setup.actors → ts ≡ p.texts
     → actors ≡ start_trees (map (λ s. s.name) ss) ss → results ≡ text_trees ts
-    → object (member (codes "actors") (array actors) (member (codes "diasca_limit") (number (unsigned l.diasca_limit)) (member (codes "format") (number (unsigned 1)) (member (codes "last_tick") (number (unsigned l.last_tick))
-    (member (codes "max_actors") (number (unsigned l.max_actors)) (member (codes "results") (array results) (member (codes "seed") (number (unsigned l.seed)) no_members)))))))
-    ≡ tree_for p
+    → whole_tree l actors results ≡ tree_for p
 unfolding tree_for
 tree_for-parts p l ss ts actors results a b c d e f g h = rw (g, h, a, b, c, d, e, f)

@@ -1,5 +1,5 @@
 -- The scenario that a text gives, or why it gives none.
-use Rattle.std.specs.Prelude.{ℕ, List, Option, None, Result, Ok, nat_le, if◌then◌else◌, codes}
+use Rattle.std.specs.Prelude.{ℕ, List, [], Option, None, Result, Ok, nat_le, if◌then◌else◌, codes}
 use Rattle.std.specs.Str.{is_utf8}
 use Rattle.serde_json.specs.Data.{Data, Items}
 use Rattle.serde_json.specs.Events.{items_len}
@@ -48,7 +48,7 @@ scenario_in d = do
   items ← items_in limits.max_actors (get (codes "actors") d)
   actors ← actors_of items
   Ok (record {
-    setup = record { seed = limits.seed; last_tick = limits.last_tick; diasca_limit = limits.diasca_limit; max_actors = limits.max_actors; actors = actors };
+    setup = record { seed = limits.seed; last_tick = limits.last_tick; diasca_limit = limits.diasca_limit; max_actors = limits.max_actors; actors = actors; urgent = [] };
     rules = rules;
     texts = texts;
   })

@@ -16,6 +16,7 @@ use Rattle.sim_model.specs.declared.setup.Start.{Start}
 use Rattle.scenario.specs.ScenarioParts.{ScenarioParts}
 use Rattle.scenario.specs.declared.any_actor.AnyActor.{AnyActor}
 use Rattle.scenario.specs.declared.any_actor.AnyActor.TheVariants.{Clock, Ball, Fuse, Machine, Customer, RandomCustomer, Refill, Depot}
+use Rattle.scenario.specs.declared.whole.Limits.{Limits}
 
 -- the name of an actor
 abbrev pub name_at : List (List ℕ) → ActorId → List ℕ
@@ -107,15 +108,22 @@ abbrev pub text_trees : List (List ℕ) → Items
 text_trees [] = no_items
 text_trees (t ∷ ts) = item (string t) (text_trees ts)
 
-unfoldable pub tree_for : ScenarioParts → Data
-tree_for p = object (
-    member (codes "actors") (array (start_trees (map (λ s. s.name) p.setup.actors) p.setup.actors)) (
-    member (codes "diasca_limit") (number (unsigned p.setup.diasca_limit)) (
+-- the whole: its numbers, and the trees of its actors and of its rules
+abbrev pub whole_tree : Limits → Items → Items → Data
+whole_tree l actors results = object (
+    member (codes "actors") (array actors) (
+    member (codes "diasca_limit") (number (unsigned l.diasca_limit)) (
     member (codes "format") (number (unsigned 1)) (
-    member (codes "last_tick") (number (unsigned p.setup.last_tick)) (
-    member (codes "max_actors") (number (unsigned p.setup.max_actors)) (
-    member (codes "results") (array (text_trees p.texts)) (
-    member (codes "seed") (number (unsigned p.setup.seed)) no_members)))))))
+    member (codes "last_tick") (number (unsigned l.last_tick)) (
+    member (codes "max_actors") (number (unsigned l.max_actors)) (
+    member (codes "results") (array results) (
+    member (codes "seed") (number (unsigned l.seed)) no_members)))))))
+
+unfoldable pub tree_for : ScenarioParts → Data
+tree_for p =
+    let s = p.setup in
+    whole_tree (record { seed = s.seed; last_tick = s.last_tick; diasca_limit = s.diasca_limit; max_actors = s.max_actors })
+    (start_trees (map (λ s. s.name) s.actors) s.actors) (text_trees p.texts)
 
 abbrev pub canonical_text : ScenarioParts → List ℕ
 canonical_text p = compact_text (tree_for p)

@@ -59,8 +59,11 @@ AreNames starts = All (λ s. is_name s.name ≡ true) starts
 abbrev pub is_rule : List ℕ → Bool
 is_rule text = is_some (rule_of text)
 
+-- the format has room for 200,000 actors, and names no urgent sender
 pub record IsScenario (p : ScenarioParts) : Type 0 where
   pub setup : IsSetup p.setup
+  pub room : p.setup.max_actors ≤ 200000
+  pub urgent : p.setup.urgent ≡ []
   pub few_rules : length p.texts ≤ 256
   pub rules : rules_of p.texts ≡ Ok p.rules
   pub names : AreNamed [] p.setup.actors

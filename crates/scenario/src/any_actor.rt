@@ -9,13 +9,21 @@ use std::alloc::Global;
 /// An actor of any kind.
 #[derive(Clone, Copy, Debug, PartialEq, Eq)]
 pub enum AnyActor {
+    /// It beats so many times, one period apart.
     Clock(Clock),
+    /// It hits a ball to its peer, and returns each that comes.
     Ball(Ball),
+    /// It shows a fault of its own at its tick.
     Fuse(Fuse),
+    /// It sells cans for coins.
     Machine(Machine),
+    /// It buys a can each period.
     Customer(Customer),
+    /// It buys a can after each of its drawn waits.
     RandomCustomer(RandomCustomer),
+    /// It fills a machine at its first event, and retires.
     Refill(Refill),
+    /// It bears refills at its tick.
     Depot(Depot),
 }
 

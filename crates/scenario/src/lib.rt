@@ -9,8 +9,7 @@ mod names;
 mod printing;
 mod refusal;
 mod selection;
-#[cfg(test)]
-mod tests;
+mod threads;
 mod whole;
 
 pub use any_actor::AnyActor;

@@ -1,10 +1,10 @@
 //! The tree that a scenario is printed as.
-ghost use Rattle.std.specs.Prelude.{◌≡◌, map, length, true, IfOk, codes};
+ghost use Rattle.std.specs.Prelude.{◌≡◌, map, length, true, IfOk};
 ghost use Rattle.std.specs.List.{list_all};
-ghost use Rattle.serde_json.specs.Data.{array, member, no_members, number, object, string, unsigned};
+ghost use Rattle.serde_json.specs.Data.{string};
 ghost use Rattle.serde_json.specs.View.{items_view, view};
 ghost use Rattle.sim_base.specs.Names.{is_name};
-ghost use Rattle.scenario.specs.Print.{ball_tree, clock_tree, customer_tree, depot_tree, fuse_tree, machine_tree, name_at, random_customer_tree, refill_tree, start_trees, state_tree, text_trees, tree_for};
+ghost use Rattle.scenario.specs.Print.{ball_tree, clock_tree, customer_tree, depot_tree, fuse_tree, machine_tree, name_at, random_customer_tree, refill_tree, start_trees, state_tree, text_trees, tree_for, whole_tree};
 ghost use Rattle.scenario.specs.Valid.{AreNames, AreOpening, IsActor, IsOpening, IsScenario, is_rule};
 
 use crate::whole::Limits;
@@ -186,7 +186,7 @@ fn whole_value(
     actors: Vec<Value>,
     results: Vec<Value>,
 ) -> Result<Value, AllocError>
-    ensures { IfOk result (λ v. view v ≡ object (member (codes "actors") (array (items_view actors.items)) (member (codes "diasca_limit") (number (unsigned limits.now.diasca_limit)) (member (codes "format") (number (unsigned 1)) (member (codes "last_tick") (number (unsigned limits.now.last_tick)) (member (codes "max_actors") (number (unsigned limits.now.max_actors)) (member (codes "results") (array (items_view results.items)) (member (codes "seed") (number (unsigned limits.now.seed)) no_members)))))))) }
+    ensures { IfOk result (λ v. view v ≡ whole_tree limits.now (items_view actors.items) (items_view results.items)) }
 {
     json!(in alloc; {
         "actors": actors, "diasca_limit": limits.diasca_limit, "format": 1u64,

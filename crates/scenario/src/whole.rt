@@ -25,8 +25,11 @@ pub type RuleText = Items<u8>;
 /// and rules that are those of the texts.
 #[derive(Drop)]
 pub struct Scenario {
+    /// What is run: at most 200,000 actors, none of them an urgent sender.
     pub setup: Setup<AnyActor>,
+    /// Which series are written: the rules of the texts.
     pub rules: Rules,
+    /// The texts of the rules, in their order, at most 256.
     pub texts: Items<RuleText>,
 }
 
@@ -115,6 +118,7 @@ fn read_tree(alloc: Global, tree: &Value) -> Result<Scenario, ScenarioFault>
             diasca_limit: limits.diasca_limit,
             max_actors: limits.max_actors,
             actors,
+            urgent: Items::new(alloc),
         },
         rules,
         texts,

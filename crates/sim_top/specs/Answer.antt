@@ -3,8 +3,8 @@ use Rattle.std.specs.Prelude.{List, [], ◌++◌, codes}
 use Rattle.sim_base.specs.Endings.{status_of_ending}
 use Rattle.sim_base.specs.declared.status.Status.TheVariants as status
 use Rattle.sim_model.specs.Run.{results_of, run_of}
-use Rattle.sim_model.specs.declared.run.Progress.{Progress}
-use Rattle.sim_model.specs.declared.run.Progress.TheVariants.{Going, Over}
+use Rattle.sim_model.specs.declared.stage.Stage.{Stage}
+use Rattle.sim_model.specs.declared.stage.Stage.TheVariants.{Going, Over}
 use Rattle.result_store.specs.RuleParts.{RuleParts}
 use Rattle.result_store.specs.Text.{text_of}
 use Rattle.scenario.specs.AnyActors.{any_meaning}
@@ -16,7 +16,7 @@ use Rattle.sim_top.specs.declared.words.Command.{Command}
 use Rattle.sim_top.specs.declared.words.Command.TheVariants.{Run, Check}
 
 -- every run is over after its last moment, so the first case never comes
-abbrev pub run_answer : List RuleParts → Progress AnyActor → Answer
+abbrev pub run_answer : List RuleParts → Stage AnyActor → Answer
 run_answer rules (Going u) = record { text = []; status = status.NoMemory }
 run_answer rules (Over e) = record { text = text_of rules (results_of e); status = status_of_ending e.ending }
 

@@ -14,7 +14,9 @@ use std::alloc::Global;
 /// What a command writes and answers.
 #[derive(Drop)]
 pub struct Answer {
+    /// All that is written.
     pub text: Items<u8>,
+    /// Done, or what the ending of a run gives.
     pub status: Status,
 }
 
@@ -45,7 +47,7 @@ fn check(alloc: Global, scenario: &Scenario) -> Result<Answer, Memory>
     ensures ending { IfOk result (λ a. IsEnding a.status) }
 {
     let mut text = scenario.print(alloc)?;
-    text.push(b'\n').map_err(|_| Memory)?;
+    text.add(b'\n')?;
     Ok(Answer {
         text,
         status: Status::Done,

@@ -5,6 +5,7 @@
 mod answer;
 mod lines;
 mod options;
+mod threads;
 mod top;
 mod verdict;
 mod words;

@@ -18,6 +18,7 @@ pub enum Command {
 /// What command words ask for.
 #[derive(Clone, Copy, Debug, PartialEq, Eq)]
 pub struct Order {
+    /// What is done.
     pub command: Command,
     /// How the run is spread. An option that isn't given, or that the command doesn't take, has its
     /// default: one worker, one manager, a fan-out of 2, round robin.
@@ -51,6 +52,7 @@ pub struct WordsRefusal {
     /// The place of the word, from 0: of the option where its value is missing, else of the word that
     /// fails.
     pub place: u64,
+    /// Why it is refused.
     pub cause: WordsCause,
     /// The number that is out of range, else 0.
     pub value: u64,

@@ -1,8 +1,11 @@
-use Rattle.std.proofs.Common.{◌≡◌, Ok, arith, Result}
+use Rattle.std.proofs.Common.{◌≡◌, [], List, Ok, arith, Result, subst, sym}
 use Rattle.std.proofs.lemmas.Grind.{common_steps}
 use Rattle.serde_json.specs.View.{view}
+use Rattle.sim_base.specs.declared.ids.ActorId.{ActorId}
+use Rattle.sim_model.specs.Setups.{IsSetup}
 use Rattle.scenario.specs.Format.{scenario_in}
 use Rattle.scenario.specs.ScenarioParts.{ScenarioParts}
+use Rattle.scenario.specs.Valid.{IsScenario}
 use Rattle.scenario.specs.declared.refusal.Refusal.{Refusal}
 use Rattle.scenario.proofs.Facts.{scenario_in-ok}
 use Rattle.scenario.proofs.whole.read_tree.Goals as goal
@@ -11,22 +14,22 @@ pub invariant_of-result : goal.invariant_of-result
 unfolding scenario_in
 invariant_of-result c =
     let limits = c.in_ok-limits.limits in
-    let made : ScenarioParts = record {
-      setup = record { seed = limits.seed; last_tick = limits.last_tick; diasca_limit = limits.diasca_limit; max_actors = limits.max_actors; actors = c.in_ok-actors.actors };
+    let made : List ActorId → ScenarioParts = λ urgent. record {
+      setup = record { seed = limits.seed; last_tick = limits.last_tick; diasca_limit = limits.diasca_limit; max_actors = limits.max_actors; actors = c.in_ok-actors.actors; urgent = urgent };
       rules = c.in_ok-rules.rules;
       texts = c.in_ok-texts.texts;
     } in
-    let read : ◌≡◌ {A = Result ScenarioParts Refusal} (scenario_in (view c.args.tree.now)) (Ok made) = grind (arith, common_steps) in
-    (scenario_in-ok (view c.args.tree.now) made read).setup
+    let read : ◌≡◌ {A = Result ScenarioParts Refusal} (scenario_in (view c.args.tree.now)) (Ok (made [])) = grind (arith, common_steps) in
+    subst (λ (urgent : List ActorId). IsSetup (made urgent).setup) (sym c.new.ensures) (scenario_in-ok (view c.args.tree.now) (made []) read).setup
 
 pub invariant_of-result-2 : goal.invariant_of-result-2
 unfolding scenario_in
 invariant_of-result-2 c =
     let limits = c.in_ok-limits.limits in
-    let made : ScenarioParts = record {
-      setup = record { seed = limits.seed; last_tick = limits.last_tick; diasca_limit = limits.diasca_limit; max_actors = limits.max_actors; actors = c.in_ok-actors.actors };
+    let made : List ActorId → ScenarioParts = λ urgent. record {
+      setup = record { seed = limits.seed; last_tick = limits.last_tick; diasca_limit = limits.diasca_limit; max_actors = limits.max_actors; actors = c.in_ok-actors.actors; urgent = urgent };
       rules = c.in_ok-rules.rules;
       texts = c.in_ok-texts.texts;
     } in
-    let read : ◌≡◌ {A = Result ScenarioParts Refusal} (scenario_in (view c.args.tree.now)) (Ok made) = grind (arith, common_steps) in
-    scenario_in-ok (view c.args.tree.now) made read
+    let read : ◌≡◌ {A = Result ScenarioParts Refusal} (scenario_in (view c.args.tree.now)) (Ok (made [])) = grind (arith, common_steps) in
+    subst (λ (urgent : List ActorId). IsScenario (made urgent)) (sym c.new.ensures) (scenario_in-ok (view c.args.tree.now) (made []) read)

@@ -1,5 +1,5 @@
 ghost use Rattle.std.specs.Prelude.{◌≡◌, IfOk, map, replicate, refl};
-ghost use Rattle.worked_rows.specs.Puppets.{heard, listener, said, taken, times};
+ghost use Rattle.meaning_tests.specs.Puppets.{heard, listener, said, taken, times};
 
 use actor_trait::{Actor, Context, Event, FaultCode, Letter, Outcome, Parcel, Payload, Sample};
 use sim_base::{ActorId, Items, Memory};
@@ -13,6 +13,8 @@ pub struct Puppet {
     pub at: u64,
     /// How many letters it sends.
     pub sends: u32,
+    /// What they say.
+    pub says: i64,
     /// To whom.
     pub to: ActorId,
     /// How often it asks for a tick.
@@ -35,6 +37,7 @@ pub struct Puppet {
 pub const LISTENER: Puppet = Puppet {
     at: 0,
     sends: 0,
+    says: 5,
     to: ActorId(0),
     ticks: 0,
     next: 0,
@@ -46,7 +49,7 @@ pub const LISTENER: Puppet = Puppet {
 };
 
 impl Puppet {
-    ghost use Rattle.worked_rows.specs.Puppets.{puppet_asks};
+    ghost use Rattle.meaning_tests.specs.Puppets.{puppet_asks};
     ghost use Rattle.actor_trait.specs.Seen.{seen};
 
     /// The letter that it sends.
@@ -57,7 +60,7 @@ impl Puppet {
             to: self.to,
             payload: Payload {
                 code: 7,
-                a: 5,
+                a: self.says,
                 b: 0,
             },
         }
@@ -122,7 +125,7 @@ fn hear(alloc: Global, inbox: &[Letter]) -> Result<Vec<Sample>, AllocError>
 }
 
 impl Actor for Puppet {
-    ghost use Rattle.worked_rows.specs.Puppets.{puppet_meaning};
+    ghost use Rattle.meaning_tests.specs.Puppets.{puppet_meaning};
 
     ghost meaning = { puppet_meaning };
 

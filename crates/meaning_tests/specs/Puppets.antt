@@ -8,14 +8,14 @@ use Rattle.actor_trait.specs.declared.letter.Letter.{Letter}
 use Rattle.actor_trait.specs.declared.letter.Parcel.{Parcel}
 use Rattle.actor_trait.specs.declared.outcome.Outcome.{Outcome}
 use Rattle.actor_trait.specs.declared.outcome.Sample.{Sample}
-use Rattle.worked_rows.specs.declared.puppet.Puppet.{Puppet}
+use Rattle.meaning_tests.specs.declared.puppet.Puppet.{Puppet}
 
 -- one that only listens
 abbrev pub listener : Puppet
-listener = record { at = 0; sends = 0; to = record { 0 = 0 }; ticks = 0; next = 0; births = 0; samples = 0; probe = 0; retires = false; fault = 0 }
+listener = record { at = 0; sends = 0; says = pos 5; to = record { 0 = 0 }; ticks = 0; next = 0; births = 0; samples = 0; probe = 0; retires = false; fault = 0 }
 
 abbrev pub said : Puppet → Parcel
-said p = record { to = p.to; payload = record { code = 7; a = pos 5; b = pos 0 } }
+said p = record { to = p.to; payload = record { code = 7; a = p.says; b = pos 0 } }
 
 abbrev pub heard : Letter → Sample
 heard l = record { probe = 0; value = l.payload.a }

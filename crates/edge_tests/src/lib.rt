@@ -1,0 +1,17 @@
+//! Cases of the edge through its public calls: rules, the text of a run, scenarios and their canonical
+//! texts, actors of any kind, and command words. What is expected was worked out by hand or by another
+//! program.
+#![tactic(auto)]
+
+#[cfg(test)]
+mod any_actor_tests;
+#[cfg(test)]
+mod canonical_text_tests;
+#[cfg(test)]
+mod refusal_tests;
+#[cfg(test)]
+mod rule_tests;
+#[cfg(test)]
+mod run_text_tests;
+#[cfg(test)]
+mod words_tests;

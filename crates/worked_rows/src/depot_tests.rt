@@ -1,0 +1,67 @@
+ghost use Rattle.std.specs.Prelude.{◌≡◌, IfOk};
+
+use crate::rows::TWO_DEPOTS;
+use actor_lifecycle::settle;
+use actor_trait::{Actor, Context, Event};
+use scenario::{AnyActor, Scenario};
+use sim_base::{ActorId, Ending, Items, Memory, Moment};
+use sim_model::{Report, Settled, Start, plain_run};
+use std::alloc::Global;
+use std::test::Fail;
+
+/// The tick of the depots.
+const NOW: Moment = Moment { tick: 1, diasca: 0 };
+
+/// What this depot does at its tick.
+fn report_of(alloc: Global, id: u32, depot: &AnyActor) -> Result<Report<AnyActor>, Memory>
+    ensures { IfOk result (λ report. report.id.0 ≡ id) }
+{
+    let id = ActorId(id);
+    let context = Context {
+        seed: 0,
+        now: NOW,
+        me: id,
+    };
+    let event = Event {
+        first: false,
+        spontaneous: true,
+        inbox: &[],
+    };
+    let outcome = depot.act(alloc, &context, &event)?;
+    Ok(Report { id, outcome })
+}
+
+/// What becomes of the reports of the depots, the actors 2 and 3.
+fn settle_depots(
+    alloc: Global,
+    first: &Start<AnyActor>,
+    second: &Start<AnyActor>,
+) -> Result<Settled<AnyActor>, Memory> {
+    let first = report_of(alloc, 2, &first.state)?;
+    let second = report_of(alloc, 3, &second.state)?;
+    let reports = Items::of(Vec::from_array(alloc, [first, second])?);
+    settle(alloc, reports, NOW, 4, 6)
+}
+
+#[test]
+fn the_run_and_settling_blame_the_same_depot(rt: HostRuntime) -> Result<(), Fail> {
+    let alloc = rt.alloc();
+    let read = Scenario::read(alloc, TWO_DEPOTS.as_bytes());
+    let Ok(scenario) = &read else {
+        return Err(Fail::from("no scenario"));
+    };
+    let results = plain_run(alloc, &scenario.setup)?;
+    let fault = Ending::Fault {
+        actor: ActorId(3),
+        code: 902,
+    };
+    assert_eq!(rt; (results.last, results.ending), (NOW, fault));
+    let [_, first, second] = scenario.setup.actors.as_slice() else {
+        return Err(Fail::from("no depots"));
+    };
+    let Settled::Faulted { actor, code } = settle_depots(alloc, first, second)? else {
+        return Err(Fail::from("no fault"));
+    };
+    assert_eq!(rt; (actor, code), (ActorId(3), 902));
+    Ok(())
+}

@@ -3,8 +3,7 @@
 //! A tree is made once, and from then on answers without taking memory.
 #![tactic(auto)]
 
-#[cfg(test)]
-mod tests;
+mod threads;
 mod tree;
 
 pub use tree::Tree;

@@ -6,8 +6,7 @@
 mod placing;
 mod plan;
 mod policy;
-#[cfg(test)]
-mod tests;
+mod threads;
 
 pub use placing::place;
 pub use plan::Plan;

@@ -4,9 +4,10 @@ use mathlib.Core.Logic.{dite}
 use native.Mathlib.Decide.{dec_lt}
 use Rattle.quiet_core.specs.declared.deed.Deed.TheVariants as deed
 use Rattle.quiet_core.specs.Rows.{put, bit}
-use Rattle.quiet_core.specs.Account.{Shape, managers, scheduled, root, Mark, free, fresh, Account, mark, knows, posts, acks, collects, has_duty, opened, owing}
-use Rattle.quiet_core.specs.Step.{put_mark, settled, May, meet, united}
-use Rattle.quiet_core.proofs.Sums.{le_sum, pair_here, blend_at, put_here}
+use Rattle.quiet_core.specs.Balance.{Sized}
+use Rattle.quiet_core.specs.Account.{Shape, managers, scheduled, root, parent, Mark, free, fresh, Account, mark, knows, posts, acks, collects, has_duty, opened, owing}
+use Rattle.quiet_core.specs.Step.{word, issued_at, put_mark, settled, May, meet, united}
+use Rattle.quiet_core.proofs.Sums.{le_sum, le_below, pair_here, blend_at, put_here}
 use Rattle.quiet_core.proofs.Acks.{one_left, open_in}
 use Rattle.quiet_core.proofs.CollectKeeps.{collect_new, look_more}
 use Rattle.quiet_core.proofs.AckKeeps.{enough}
@@ -20,7 +21,7 @@ use Rattle.quiet_core.proofs.Untouched.{ge_ltb}
 use Rattle.quiet_core.proofs.Settle.{settled_not, settled_duty, settled_root}
 use Rattle.quiescence.specs.declared.answers.After.{After}
 use Rattle.quiescence.specs.declared.answers.After.TheVariants.{Left, Duty, Root}
-use Rattle.quiescence.specs.Answers.{IsAfter, Holds, holding}
+use Rattle.quiescence.specs.Answers.{IsAfter, IsHigher, Holds, holding}
 use Rattle.quiescence.specs.Rule.{Stands, Did}
 use Rattle.quiescence.specs.Learnt.{Idle, Whole, Learnt, Apart}
 use Rattle.quiescence.proofs.Reports.{was_free}
@@ -41,8 +42,18 @@ module _ (t : Shape) (a : Account) (s : Stands t a) where
         sym (sum_is t s.state s.hand a s.kept s.sits w (λ (c : Account). acks c m n) (acks_none t m n)) ∙ q.all_acked m n lm ln ∙ sum_is t s.state s.hand a s.kept s.sits w (λ (c : Account). posts c m n) (posts_none t m n));
   }
 
+  -- of a manager at which nobody is scheduled there are no letters
+  silent : (m n : ℕ) → m < managers t → n < managers t → scheduled t m ≡ 0 → (posts a m n ≡ 0) × (knows a m n ≡ 0)
+  silent m n lm ln z =
+      let u = (s.kept.units m lm).letters in
+      let l = le_below (λ k. word s.state (issued_at t m k)) (managers t) n ln in
+      let w = s.kept.letters m n lm ln in
+      let e = w.all_posted in
+      let p = le_sum (λ (y : Account). posts y m n) s.state.accounts s.hand a s.sits in
+      let k = w.known s.hand a s.sits in (omega arith, omega arith)
+
   pub learnt : Learnt t a
-  learnt = record { once = entered_at_most t s.state s.hand a s.kept s.sits; idle = idle; whole = whole }
+  learnt = record { once = entered_at_most t s.state s.hand a s.kept s.sits; silent = silent; idle = idle; whole = whole }
 
   -- a duty is held below the root
   pub duty_below : (c : ℕ) → has_duty a c ≡ true → c < root t
@@ -123,6 +134,12 @@ module _ (t : Shape) (a a' : Account) (x : ℕ) where
   pub taken_one : (n : ℕ) → May t (deed.Collect n) a → Did t (deed.Collect n) a x a' → x ≢ 0 → x ≡ 1
   taken_one n may d nz = let s = d.before in let f = d.found in let o = (s.kept.collectors n may.0).one_collector in omega arith
 
+  -- who finds that nobody collects doesn't either
+  pub first_turn : (n : ℕ) → May t (deed.Collect n) a → Did t (deed.Collect n) a x a' → x ≡ 0 → collects a n ≡ 0
+  first_turn n may d z =
+      let s = d.before in let w = (s.kept.collectors n may.0).collector in let f = d.found in
+      let l = le_sum (λ (y : Account). collects y n) s.state.accounts s.hand a s.sits in omega arith
+
   pub own_turn : (n : ℕ) → May t (deed.Collect n) a → Did t (deed.Collect n) a x a' → a.weight ≡ t.hands → collects a n ≡ x
   own_turn n may d w = let s = d.before in sym (whole_collects t s.state s.hand a s.kept s.sits w n may.0) ∙ d.found
 
@@ -145,3 +162,9 @@ pub holds_it : (t : Shape) (j x : ℕ) (b a : Account) (r : After) → IsAfter t
 holds_it t j x b a (Left y) e is = tt
 holds_it t j x b a (Duty k) e is = (let l = e.2 in let q = e.0 in omega arith, ap (λ (c : Account). has_duty c k.0) is ∙ put_here false b.duties k.0 true)
 holds_it t j x b a Root e is = ap (λ (c : Account). c.at_root) is
+
+-- a duty that comes of a climb is higher, since parents are
+pub climbs_higher : (t : Shape) (c x : ℕ) (r : After) → Sized t → c < root t → IsAfter t (parent t c) x r → IsHigher c r
+climbs_higher t c x (Left y) z l e = tt
+climbs_higher t c x (Duty k) z l e = let p = z.parents_above c l in let q = e.0 in omega arith
+climbs_higher t c x Root z l e = tt

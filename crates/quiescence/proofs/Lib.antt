@@ -5,6 +5,8 @@ pub mod Learns
 pub mod Keeping
 pub mod Looks
 pub mod Totals
+pub mod Together
+pub mod Climbs
+pub mod Readers
 pub mod Left
 pub mod Finishing
-pub mod Trials

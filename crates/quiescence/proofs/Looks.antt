@@ -1,15 +1,16 @@
 -- Looks at all pairs of managers, and hands joined from the last on.
-use Rattle.std.proofs.Common.{◌≡◌, Some, ℕ, ◌+◌, ◌≤◌, List, [], ◌∷◌, ◌++◌, length, sym, refl, ap, ◌∙◌, subst, arith}
+use Rattle.std.proofs.Common.{◌≡◌, Some, ℕ, ◌+◌, ◌<◌, ◌≤◌, List, [], ◌∷◌, ◌++◌, length, sym, refl, ap, ◌∙◌, subst, arith}
 use Rattle.std.proofs.lemmas.List.Elements.{All-pop}
 use mathlib.Core.Logic.{dite}
 use native.Mathlib.Decide.{ℕ_discrete}
 use Rattle.quiet_core.specs.Rows.{at_pair, put_pair}
-use Rattle.quiet_core.specs.Account.{Shape, managers, Account, knows, posts}
+use Rattle.quiet_core.specs.Account.{Shape, managers, scheduled, Account, knows, posts}
 use Rattle.quiet_core.specs.Step.{united}
 use Rattle.quiet_core.proofs.Untouched.{split_at}
 use Rattle.quiet_core.proofs.Sums.{pair_here, pair_beside, pair_apart}
 use Rattle.quiescence.specs.Rule.{RoundId, Holding}
-use Rattle.quiescence.specs.Joint.{pooled, joint, AllOf, Looked}
+use Rattle.quiescence.specs.Learnt.{Learnt}
+use Rattle.quiescence.specs.Joint.{pooled, joint, AllOf, LookedFrom, LookedAll}
 
 -- a number that is put where it isn't less leaves no number less
 grows : (l : List (List ℕ)) (m n x : ℕ) → at_pair l m n ≤ x → (j k : ℕ) → at_pair l j k ≤ at_pair (put_pair l m n x) j k
@@ -17,7 +18,7 @@ grows l m n x h = split_at (λ j. (k : ℕ) → at_pair l j k ≤ at_pair (put_p
     (split_at (λ k. at_pair l m k ≤ at_pair (put_pair l m n x) m k) n (let e = pair_here l m n x in omega arith) (λ k ne. let e = pair_beside l m n k x ne in omega arith))
     (λ j ne k. let e = pair_apart l m n j k x ne in omega arith)
 
-module _ (t : Shape) (g h h' : Holding) (m n x : ℕ) (w : Looked t g h m n) (of : h'.round ≡ h.round) (is : h'.account ≡ record h.account { known = put_pair h.account.known m n x }) (more : (knows h.account m n ≤ x) × (posts h.account m n ≤ x)) where
+module _ (g h h' : Holding) (m n x : ℕ) (w : LookedFrom g h m n) (of : h'.round ≡ h.round) (is : h'.account ≡ record h.account { known = put_pair h.account.known m n x }) (more : (knows h.account m n ≤ x) × (posts h.account m n ≤ x)) where
   known : h'.account.known ≡ put_pair h.account.known m n x
   known = ap (λ (a : Account). a.known) is
 
@@ -25,22 +26,37 @@ module _ (t : Shape) (g h h' : Holding) (m n x : ℕ) (w : Looked t g h m n) (of
   grown j k = let r = grows h.account.known m n x more.0 j k in let e : knows h'.account j k ≡ at_pair (put_pair h.account.known m n x) j k = ap (λ l. at_pair l j k) known in omega arith
 
   here : posts g.account m n ≤ knows h'.account m n
-  here = let e : knows h'.account m n ≡ x = ap (λ l. at_pair l m n) known ∙ pair_here h.account.known m n x in let f : posts h.account m n ≡ posts g.account m n = ap (λ (r : Holding). posts r.account m n) w.same in let q = more.1 in omega arith
+  here = let e : knows h'.account m n ≡ x = ap (λ l. at_pair l m n) known ∙ pair_here h.account.known m n x in let f : posts h.account m n ≡ posts g.account m n = ap (λ (r : Holding). posts r.account m n) w.knows_more.same in let q = more.1 in omega arith
 
-  pub looked_more : Looked t g h' m (n + 1)
+  pub looked_more : LookedFrom g h' m (n + 1)
   looked_more = record {
-    same = let a : h'.account ≡ record g.account { known = h'.account.known } =
-        is ∙ ap (λ (r : Holding). record r.account { known = put_pair h.account.known m n x }) w.same ∙ ap (λ (l : List (List ℕ)). record g.account { known = l }) (sym known) in
-        let o : h'.round ≡ g.round = of ∙ ap (λ (r : Holding). r.round) w.same in λ i. record { round = o i; account = a i };
-    rows = λ j k l u. (let e = w.rows j k l u in let f = grown j k in omega arith);
+    knows_more = record {
+      same = let a : h'.account ≡ record g.account { known = h'.account.known } =
+          is ∙ ap (λ (r : Holding). record r.account { known = put_pair h.account.known m n x }) w.knows_more.same ∙ ap (λ (l : List (List ℕ)). record g.account { known = l }) (sym known) in
+          let o : h'.round ≡ g.round = of ∙ ap (λ (r : Holding). r.round) w.knows_more.same in λ i. record { round = o i; account = a i };
+      more = λ j k. (let e = w.knows_more.more j k in let f = grown j k in omega arith);
+    };
     row = λ k l. dite (ℕ_discrete k n) (λ e. subst (λ (z : ℕ). posts g.account m z ≤ knows h'.account m z) (sym e) here) (λ ne. let e = w.row k (omega arith) in let f = grown m k in omega arith);
   }
 
-pub next_row : (t : Shape) (g h : Holding) (m n : ℕ) → Looked t g h m n → managers t ≤ n → Looked t g h (m + 1) 0
-next_row t g h m n w l = record {
-  same = w.same;
-  rows = λ j k u v. dite (ℕ_discrete j m) (λ e. subst (λ (z : ℕ). posts g.account z k ≤ knows h.account z k) (sym e) (w.row k (omega arith))) (λ ne. w.rows j k (omega arith) v);
-  row = λ k u. absurd (omega arith);
+-- a hand that has looked at nothing yet, and one that needs not: nobody was scheduled at m
+pub looked_none : (g : Holding) (m : ℕ) → LookedFrom g g m 0
+looked_none g m = record { knows_more = record { same = refl; more = λ j k. omega arith }; row = λ k l. absurd (omega arith) }
+
+pub looked_silent : (t : Shape) (g : Holding) (m : ℕ) → Learnt t g.account → m < managers t → scheduled t m ≡ 0 → LookedFrom g g m (managers t)
+looked_silent t g m w lm z = record { knows_more = record { same = refl; more = λ j k. omega arith }; row = λ k l. (let e = (w.silent m k lm l z).0 in omega arith) }
+
+-- one manager more
+pub looked_next : (t : Shape) (g h h' : Holding) (m : ℕ) → LookedAll t g h m → LookedFrom h h' m (managers t) → LookedAll t g h' (m + 1)
+looked_next t g h h' m w v = record {
+  knows_more = record {
+    same = v.knows_more.same ∙ ap (λ (r : Holding). record r { account = record r.account { known = h'.account.known } }) w.knows_more.same;
+    more = λ j k. (let e = w.knows_more.more j k in let f = v.knows_more.more j k in omega arith);
+  };
+  rows = λ j k u l. dite (ℕ_discrete j m)
+      (λ e. let p : posts h.account m k ≡ posts g.account m k = ap (λ (r : Holding). posts r.account m k) w.knows_more.same in
+      let r = v.row k l in subst (λ (z : ℕ). posts g.account z k ≤ knows h'.account z k) (sym e) (omega arith))
+      (λ ne. let e = w.rows j k (omega arith) l in let f = v.knows_more.more j k in omega arith);
 }
 
 -- the last hand is taken in first

@@ -1,5 +1,5 @@
 -- What the calls of a round answer.
-use Rattle.std.specs.Prelude.{◌≡◌, ℕ, ◌+◌, ◌-◌, ◌<◌, ◌≤◌, true, false}
+use Rattle.std.specs.Prelude.{◌≡◌, ◌≢◌, ℕ, suc, ◌+◌, ◌-◌, ◌<◌, ◌≤◌, true, false}
 use Rattle.quiet_core.specs.Rows.{put, put_pair}
 use Rattle.quiet_core.specs.Account.{Shape, managers, scheduled, root, free, fresh, told, Account, mark, posts, acks, collects, has_duty, owing}
 use Rattle.quiet_core.specs.declared.deed.Deed.{Deed}
@@ -40,6 +40,11 @@ abbrev pub IsTurn : Shape → ℕ → Account → Turn → Account → Type 0
 IsTurn t n a Yours a' = ((m : ℕ) → m < managers t → acks a m n ≡ 0) × (a' ≡ record a { collected = put 0 a.collected n 1 })
 IsTurn t n a Taken a' = a' ≡ a
 
+-- who has the turn did not collect for n before
+abbrev pub IsFirstTurn : ℕ → Account → Turn → Type 0
+IsFirstTurn n a Yours = collects a n ≡ 0
+IsFirstTurn n a Taken = Unit {0}
+
 -- for a hand of the whole weight the turn is taken exactly where it collects already
 abbrev pub IsOwnTurn : ℕ → Account → Turn → Type 0
 IsOwnTurn n a Yours = collects a n ≡ 0
@@ -50,6 +55,27 @@ abbrev pub IsAfter : Shape → ℕ → ℕ → After → Type 0
 IsAfter t j x (Left y) = (y ≡ x) × (1 ≤ x)
 IsAfter t j x (Duty k) = (k.0 ≡ j) × (x ≡ 0) × (j < root t)
 IsAfter t j x Root = (x ≡ 0) × (j ≡ root t)
+
+-- a duty that comes of a climb from the node c is at a greater node
+abbrev pub IsHigher : ℕ → After → Type 0
+IsHigher c (Left y) = Unit {0}
+IsHigher c (Duty k) = c < k.0
+IsHigher c Root = Unit {0}
+
+-- the hand holds no duty; and none but the one that was answered
+abbrev pub NoDuty : Account → Type 0
+NoDuty a = (c : ℕ) → has_duty a c ≡ false
+
+abbrev pub OnlyDuty : After → Account → Type 0
+OnlyDuty (Left y) a = NoDuty a
+OnlyDuty (Duty k) a = (c : ℕ) → c ≢ k.0 → has_duty a c ≡ false
+OnlyDuty Root a = NoDuty a
+
+-- how many climbs there may be to the root
+abbrev pub way_up : ℕ → After → ℕ
+way_up top (Left y) = 0
+way_up top (Duty k) = suc (top - k.0)
+way_up top Root = 0
 
 -- what the hand holds by the answer: the duty at the node, or Root
 abbrev pub holding : After → Account → Account

@@ -14,9 +14,10 @@ pub record Whole (t : Shape) (a : Account) : Type 0 where
   pub all_entered : (m i : ℕ) → m < managers t → has_met a m ≡ true → i < scheduled t m → entered (mark a m i) ≡ 1
   pub all_acked : a.at_root ≡ true → (m n : ℕ) → m < managers t → n < managers t → acks a m n ≡ posts a m n
 
--- no actor is entered twice; who holds Root is idle; and what the whole weight tells
+-- no actor is entered twice; of a manager at which nobody is scheduled no letter is posted or known; who holds Root is idle; and what the whole weight tells
 pub record Learnt (t : Shape) (a : Account) : Type 0 where
   pub once : (m i : ℕ) → m < managers t → entered (mark a m i) ≤ 1
+  pub silent : (m n : ℕ) → m < managers t → n < managers t → scheduled t m ≡ 0 → (posts a m n ≡ 0) × (knows a m n ≡ 0)
   pub idle : a.at_root ≡ true → Idle t a
   pub whole : a.weight ≡ t.hands → Whole t a
 

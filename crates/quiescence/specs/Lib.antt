@@ -5,4 +5,4 @@ pub mod Answers
 pub mod Learnt
 pub mod Joint
 pub mod Ended
-pub mod Trial
+pub mod Rounds

@@ -18,29 +18,28 @@ use std::marker::Model;
 /// letters were posted for each pair of managers.
 #[derive(Drop)]
 pub struct Closed {
-    frame: Frame,
-    words: Vec<u64>,
+    ended: Ended,
 }
 
 impl Model for Closed {
-    ghost use Rattle.std.specs.Prelude.{◌≡◌, length};
+    ghost use Rattle.std.specs.Prelude.{◌≡◌, ◌<◌, ◌^◌, length, sum};
     ghost use Rattle.quiet_core.specs.Step.{word_count};
     ghost use Rattle.quiet_core.specs.Balance.{Sized};
-    ghost use Rattle.quiescence.specs.Ended.{Closing, closing};
+    ghost use Rattle.quiescence.specs.Ended.{Closing, closing, posted_words};
 
     ghost Value = { Closing };
 
-    ghost view = { λ c. closing c.frame c.words.items };
+    ghost view = { λ c. closing c.ended.frame c.ended.words.items };
 
-    ghost invariant = { λ c. Sized c.frame × (length c.words.items ≡ word_count c.frame) };
+    ghost invariant = { λ c. Sized c.ended.frame × (length c.ended.words.items ≡ word_count c.ended.frame) × (sum (posted_words c.ended.frame c.ended.words.items) < 2 ^ 64) };
 }
 
 impl Closed {
-    /// How many managers.
+    /// How many managers: 1 to 16.
     pub fn managers(&self) -> usize
         ensures { result ≡ length self.now.scheduled }
     {
-        self.frame.managers()
+        self.ended.frame.managers()
     }
 
     /// How many actors were scheduled at a manager.
@@ -48,7 +47,7 @@ impl Closed {
         requires { m.0 < length self.now.scheduled }
         ensures { result ≡ slice_index self.now.scheduled m.0 }
     {
-        self.frame.scheduled(m.0)
+        self.ended.frame.scheduled(m.0)
     }
 
     /// How many letters were posted from actors of one manager to actors of another.
@@ -57,7 +56,21 @@ impl Closed {
         requires recipient { to.0 < length self.now.scheduled }
         ensures { result ≡ letters self.now m.0 to.0 }
     {
-        self.words[self.frame.issued_at(m.0, to.0)]
+        self.ended.words[self.ended.frame.issued_at(m.0, to.0)]
+    }
+
+    // How many actors were scheduled at all managers.
+    pub(crate) fn all_scheduled(&self) -> u64
+        ensures { result ≡ sum self.now.scheduled }
+    {
+        self.ended.scheduled()
+    }
+
+    // How many letters were posted for all pairs of managers.
+    pub(crate) fn all_posted(&self) -> u64
+        ensures { result ≡ sum self.now.posted }
+    {
+        self.ended.posted()
     }
 }
 
@@ -163,8 +176,7 @@ impl Round {
                 unclimbed: ended.alive() - ended.working(),
             });
         }
-        let Ended { frame, words } = ended;
-        Ok(Closed { frame, words })
+        Ok(Closed { ended })
     }
 }
 

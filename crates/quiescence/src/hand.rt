@@ -1,5 +1,6 @@
 ghost use Rattle.std.specs.Prelude.{◌≤◌};
 ghost use Rattle.quiescence.specs.Learnt.{Learnt};
+ghost use Rattle.quiescence.specs.Rule.{Stands};
 
 use crate::rule::Sight;
 use atomic_table::Seat;
@@ -27,9 +28,12 @@ impl Model for Hand {
 }
 
 impl Hand {
-    // What holds of every hand.
-    pub(crate) fn learn(&self)
+    /// What holds of every hand: it has weight, and its account stands in a state of its round that has
+    /// the balance. It does nothing at run time; a caller learns here what the first call of a hand
+    /// asks for.
+    pub fn learn(&self)
         ensures weight { 1 ≤ self.now.account.weight }
+        ensures stands { Stands self.now.round.shape self.now.account }
         ensures learnt { Learnt self.now.round.shape self.now.account }
     {
         let _ = &self.seat;

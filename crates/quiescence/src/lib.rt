@@ -4,16 +4,18 @@
 #![tactic(auto)]
 
 mod answers;
+mod climbing;
 mod ended;
 mod hand;
 mod opening;
 mod regroup;
 mod round;
+mod rounds;
 mod rule;
-#[cfg(test)]
-mod tests;
+mod threads;
 
 pub use answers::{After, Claim, Turn};
 pub use ended::{Closed, Unfinished};
 pub use hand::Hand;
 pub use round::Round;
+pub use rounds::Rounds;

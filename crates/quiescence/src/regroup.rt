@@ -3,7 +3,7 @@ ghost use Rattle.quiet_core.specs.Rows.{at_pair};
 ghost use Rattle.quiet_core.specs.Account.{managers, posts};
 ghost use Rattle.quiet_core.specs.Step.{kept_part, new_part};
 ghost use Rattle.quiescence.specs.Learnt.{Whole, Learnt};
-ghost use Rattle.quiescence.specs.Joint.{AllOf, Regrouped, helper, joint, keeper};
+ghost use Rattle.quiescence.specs.Joint.{AllOf, LookedFrom, Regrouped, helper, joint, keeper};
 
 use crate::hand::Hand;
 use crate::round::Round;
@@ -34,18 +34,31 @@ impl Round {
         last
     }
 
-    // Looks at every pair of managers.
+    // Looks at the letters from one manager, if somebody was scheduled there: else there is none.
+    fn look_from(&self, hand: &mut Hand, m: ManagerId)
+        requires of { hand.old.round ≡ self.now }
+        requires weight { 1 ≤ hand.old.account.weight }
+        requires manager { m.0 < managers self.now.shape }
+        ensures looked { LookedFrom hand.old hand.new m.0 (managers self.now.shape) }
+    {
+        if self.frame.scheduled(m.0) == 0 {
+            hand.learn();
+            return;
+        }
+        for n in 0..self.frame.managers() as u32 {
+            self.look(hand, m, ManagerId(n));
+        }
+    }
+
+    // Looks at every pair of managers that may have letters.
     fn look_all(&self, hand: &mut Hand)
         requires of { hand.old.round ≡ self.now }
         requires weight { 1 ≤ hand.old.account.weight }
         ensures same { hand.new ≡ record hand.old { account = record hand.old.account { known = hand.new.account.known } } }
         ensures more { (m n : ℕ) → m < managers self.now.shape → n < managers self.now.shape → posts hand.old.account m n ≤ at_pair hand.new.account.known m n }
     {
-        let managers = self.frame.managers() as u32;
-        for m in 0..managers {
-            for n in 0..managers {
-                self.look(hand, ManagerId(m), ManagerId(n));
-            }
+        for m in 0..self.frame.managers() as u32 {
+            self.look_from(hand, ManagerId(m));
         }
     }
 
@@ -82,6 +95,7 @@ impl Round {
         requires whole { first.old.account.weight ≡ self.now.shape.hands }
         requires empty { hands.old.items ≡ [] }
         ensures collect { IfOk result (λ _. 2 ≤ self.now.shape.hands → first.new.account.collecting ≡ true) }
+        ensures alone { IfOk result (λ _. self.now.shape.hands ≡ 1 → first.new.account.collecting ≡ first.old.account.collecting) }
         ensures first { IfOk result (λ _. first.new ≡ keeper self.now first.old.account first.old.account.known first.new.account.collecting) }
         ensures others { IfOk result (λ _. hands.new.items ≡ replicate (self.now.shape.hands - 1) (helper self.now first.old.account.known)) }
     {

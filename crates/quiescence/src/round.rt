@@ -2,8 +2,9 @@ ghost use Rattle.std.specs.Prelude.{◌≡◌, ◌≤◌, ◌<◌, []};
 ghost use Rattle.quiet_core.specs.Rows.{put_pair};
 ghost use Rattle.quiet_core.specs.Account.{knows, managers, posts, reported, root, scheduled, told};
 ghost use Rattle.quiet_core.specs.Step.{May, becomes, down, place, put_mark, stays, turn, united, up};
+ghost use Rattle.quiet_core.specs.Balance.{Sized};
 ghost use Rattle.quiescence.specs.Rule.{Did, Plays, Stands};
-ghost use Rattle.quiescence.specs.Answers.{Happened, Holds, IsAfter, IsClaim, IsOwnTurn, IsPost, IsTurn, Took, acked_more, found_at, found_by, holding, relieved};
+ghost use Rattle.quiescence.specs.Answers.{Happened, Holds, IsAfter, IsClaim, IsFirstTurn, IsHigher, IsOwnTurn, IsPost, IsTurn, Took, acked_more, found_at, found_by, holding, relieved};
 ghost use Rattle.quiescence.specs.Learnt.{Apart, Learnt};
 
 use crate::answers::{After, Claim, Turn};
@@ -40,9 +41,11 @@ impl Model for Round {
 }
 
 impl Round {
-    /// How many managers there are.
+    /// How many managers there are: 1 to 16. A caller learns here that the shape is within the limits
+    /// of a round, and that a node's parent has a greater number than the node.
     pub fn managers(&self) -> usize
-        ensures { result ≡ managers self.now.shape }
+        ensures managers { result ≡ managers self.now.shape }
+        ensures sized { Sized self.now.shape }
     {
         self.frame.managers()
     }
@@ -212,6 +215,7 @@ impl Round {
         ensures of { hand.new.round ≡ self.now }
         ensures event { Did self.now.shape (Deed.Collect to.0) hand.old.account (found_at result) hand.new.account }
         ensures turn { IsTurn self.now.shape to.0 hand.old.account result hand.new.account }
+        ensures first { IsFirstTurn to.0 hand.old.account result }
         ensures own { hand.old.account.weight ≡ self.now.shape.hands → IsOwnTurn to.0 hand.old.account result }
         ensures learnt { Learnt self.now.shape hand.new.account }
     {
@@ -269,6 +273,7 @@ impl Round {
         ensures climbed { hand.new.account ≡ holding result (relieved node.0 hand.old.account) }
         ensures holds { Holds self.now.shape result hand.new.account }
         ensures below { node.0 < root self.now.shape }
+        ensures higher { IsHigher node.0 result }
         ensures learnt { Learnt self.now.shape hand.new.account }
     {
         let seat = &mut hand.seat;

@@ -29,3 +29,4 @@ pub mod Counted
 pub mod Whole
 pub mod Conditions
 pub mod Meeting
+pub mod Lawful

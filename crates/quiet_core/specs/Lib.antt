@@ -10,3 +10,4 @@ pub mod Clear
 pub mod Wide
 pub mod Noted
 pub mod Entries
+pub mod Laws

@@ -9,18 +9,19 @@ mod deed;
 mod entry;
 mod event;
 mod frame;
+mod laws;
 mod ledger;
 mod opening;
 mod pairs;
 mod refused;
 mod round_core;
 mod rows;
-#[cfg(test)]
-mod tests;
+mod threads;
 
 pub use deed::Deed;
 pub use event::CoreEvent;
 pub use frame::Frame;
+pub use laws::{moves_keep_balance, no_other_condition, root_is_quiet};
 pub use opening::opening_words;
 pub use refused::{Condition, Refused};
 pub use round_core::Core;

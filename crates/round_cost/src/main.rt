@@ -1,46 +1,86 @@
-//! What a round costs: `round_cost FORM MANAGERS HANDS TIMES` opens so many rounds over so many managers
-//! with so many hands, lets one actor be claimed and reported, ends each round, and prints how many were
-//! over. The form is `round`, or `core` for a plain loop over the core.
+//! What a moment costs: `round_cost FORM MANAGERS HANDS FIRST OTHER LETTERS TIMES` makes so many whole
+//! moments over so many managers with so many hands, which act one after the other. So many actors are
+//! scheduled at the first manager and at each other; each sends so many letters. It prints how many
+//! moments were over. The form is `round`, or `plain` for a loop over arrays that counts the same
+//! numbers.
 #![tactic(auto)]
 
-mod cores;
-mod rounds;
+ghost use Rattle.std.specs.Prelude.{◌≤◌};
 
-use cores::count_cores;
+mod moments;
+mod plain;
+
 use manager_tree::Tree;
-use rounds::count_rounds;
+use moments::{is_closed, scheduled_at};
+use plain::is_over;
 use sim_base::Memory;
 use std::alloc::Global;
 use std::{env, io};
 
-// The number that a word shows, or 1.
-fn number(word: Option<String>) -> u32 {
-    match word {
-        Some(text) => text.as_str().parse().unwrap_or(1),
-        None => 1,
-    }
+// What is asked for.
+#[derive(Drop)]
+struct Asked {
+    plain: bool,
+    managers: u32,
+    hands: u32,
+    first: u32,
+    other: u32,
+    letters: u32,
+    times: u32,
 }
 
-fn count(alloc: Global, core: bool, managers: u32, hands: u32, times: u32) -> Result<u32, Memory> {
-    let tree = Tree::of(alloc, managers.clamp(1, 16), 2)?;
-    if core {
-        count_cores(alloc, &tree, hands.clamp(1, 64), times)
-    } else {
-        count_rounds(alloc, &tree, hands.clamp(1, 64), times)
+// The number that a word shows, or 1, brought into a range.
+fn number(word: Option<String>, least: u32, most: u32) -> u32
+    requires { least ≤ most }
+    ensures { (least ≤ result) × (result ≤ most) }
+{
+    let number = match word {
+        Some(text) => text.as_str().parse().unwrap_or(1),
+        None => 1,
+    };
+    number.clamp(least, most)
+}
+
+// How many of the moments were over.
+fn count(alloc: Global, asked: &Asked) -> Result<u32, Memory>
+    requires managers { (1 ≤ asked.now.managers) × (asked.now.managers ≤ 16) }
+    requires hands { (1 ≤ asked.now.hands) × (asked.now.hands ≤ 64) }
+    requires first { (1 ≤ asked.now.first) × (asked.now.first ≤ 1000000) }
+    requires other { asked.now.other ≤ 1000000 }
+    requires letters { asked.now.letters ≤ 1024 }
+{
+    let tree = Tree::of(alloc, asked.managers, 2)?;
+    let scheduled = scheduled_at(alloc, &tree, asked.first, asked.other)?;
+    let scheduled = scheduled.as_slice();
+    let mut over = 0u32;
+    for _ in 0..asked.times {
+        let is_over = if asked.plain {
+            is_over(scheduled, u64::from(asked.letters))
+        } else {
+            is_closed(alloc, &tree, scheduled, asked.hands, asked.letters)?
+        };
+        over = over.saturating_add(u32::from(is_over));
     }
+    Ok(over)
 }
 
 fn main(rt: HostRuntime) -> io::Result<()> {
     let mut words = env::args(&rt)?;
     words.next();
-    let core = match words.next() {
-        Some(form) => form.as_str() == "core",
+    let plain = match words.next() {
+        Some(form) => form.as_str() == "plain",
         None => false,
     };
-    let managers = number(words.next());
-    let hands = number(words.next());
-    let times = number(words.next());
-    match count(rt.alloc(), core, managers, hands, times) {
+    let asked = Asked {
+        plain,
+        managers: number(words.next(), 1, 16),
+        hands: number(words.next(), 1, 64),
+        first: number(words.next(), 1, 1_000_000),
+        other: number(words.next(), 0, 1_000_000),
+        letters: number(words.next(), 0, 1024),
+        times: number(words.next(), 0, u32::MAX),
+    };
+    match count(rt.alloc(), &asked) {
         Ok(over) => println!(rt; "{over}"),
         Err(_) => println!(rt; "no memory"),
     }

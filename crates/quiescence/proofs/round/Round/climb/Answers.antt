@@ -1,8 +1,10 @@
-use Rattle.std.proofs.Common.{ap, ◌∙◌, arith}
+use Rattle.std.proofs.Common.{ap, ◌∙◌, subst, arith}
+use Rattle.quiet_core.specs.Balance.{Sized}
+use Rattle.quiescence.specs.Rule.{RoundId}
 use Rattle.quiet_core.specs.Account.{root, parent}
 use Rattle.quiescence.proofs.Learns.{settled_is, holds_it}
 use Rattle.quiescence.proofs.Keeping.{event, still_hand, now_learnt}
-use Rattle.quiescence.proofs.Learns.{climb_found}
+use Rattle.quiescence.proofs.Learns.{climb_found, climbs_higher}
 use Rattle.quiescence.proofs.Keeping.{climb_below}
 use Rattle.quiescence.proofs.round.Round.climb.Goals as goal
 
@@ -30,3 +32,9 @@ returns-clause-below c = climb_below _ _ _ _ _ _ _ c.hand.view_is c.requires.of 
 
 pub returns-clause-learnt : goal.returns-clause-learnt
 returns-clause-learnt c = now_learnt _ _ _ _ _ _ _ _ _ c.hand.view_is c.requires.of c.requires.may c.hand.invariant c.sub-found.ensures.plays
+
+pub returns-clause-higher : goal.returns-clause-higher
+returns-clause-higher c =
+    let l = climb_below _ _ _ _ _ _ _ c.hand.view_is c.requires.of c.requires.may c.hand.invariant in
+    let z = subst (λ (r : RoundId). Sized r.shape) c.self.view_is c.self.invariant.2 in
+    climbs_higher c.args.self.now.shape c.args.node.0 _ _ z l (rw (c.parent-above.ensures ∙ ap (λ r. parent r.shape c.args.node.0) c.self.view_is) at c.after.ensures)

@@ -1,6 +1,6 @@
 use Rattle.std.proofs.Common.{arith, ◌∙◌, ℕ, subst}
 use Rattle.quiescence.proofs.Keeping.{event, still_hand, now_learnt}
-use Rattle.quiescence.proofs.Learns.{collected, taken, taken_one, own_turn}
+use Rattle.quiescence.proofs.Learns.{collected, taken, taken_one, own_turn, first_turn}
 use Rattle.quiescence.specs.Rule.{Did}
 use Rattle.quiet_core.specs.declared.deed.Deed.TheVariants.{Collect}
 use Rattle.quiescence.proofs.round.Round.collect.Goals.{then-found-eq0, else-found-eq0}
@@ -38,3 +38,11 @@ returns-clause-own c whole =
 
 pub returns-clause-learnt : goal.returns-clause-learnt
 returns-clause-learnt c = now_learnt _ _ _ _ _ _ _ _ _ c.hand.view_is c.requires.of c.requires.may c.hand.invariant c.set-found.ensures.plays
+
+pub returns-clause-first : goal.returns-clause-first
+returns-clause-first c =
+    let e = event _ _ _ _ _ _ _ _ _ c.hand.view_is c.requires.of c.requires.may c.hand.invariant c.set-found.ensures.plays in
+    elim c.if-found-eq0.branch [
+      | then-found-eq0 w ↦ rw w.result-is (first_turn _ _ _ _ _ c.requires.may e w.if-found-eq0.true)
+      | else-found-eq0 w ↦ rw w.result-is tt
+    ]

@@ -1,5 +1,7 @@
-use Rattle.std.proofs.Common.{◌<◌, length, get_or, ap, arith}
-use Rattle.quiet_core.specs.Account.{root}
+use Rattle.std.proofs.Common.{◌≡◌, ◌<◌, length, get_or, sym, ap, subst, arith}
+use Rattle.quiet_core.specs.Account.{Shape, root}
+use Rattle.quiet_core.specs.Balance.{Sized}
+use Rattle.quiet_core.specs.Step.{word_count}
 use Rattle.quiet_core.proofs.Counted.{reads}
 use Rattle.quiescence.proofs.Finishing.{reported_le, posted_small, acked_le, inner_small, working_le, closed, unfinished}
 use Rattle.quiescence.proofs.round.Round.finish.Goals as goal
@@ -41,3 +43,11 @@ returns c =
     let x = reads ws c.root.result c.index.result.now in_ c.index.ensures in
     let y = ap (λ k. get_or ws k 0) top in
     closed c.args.self c.end-ended.result.frame c.end-ended.result.words.items _ _ _ _ _ _ c.seat.view_is c.gather.ensures.of c.gather.ensures.joint c.seat.invariant c.end-ended.ensures.frame c.end-ended.ensures.ends c.requires.whole (omega arith)
+
+pub invariant_of-result : goal.invariant_of-result
+invariant_of-result c =
+    let ws = c.end-ended.result.words.items in
+    let kept = c.end-ended.ensures.ends.kept in
+    let frame = sym c.end-ended.ensures.frame in
+    let l = posted_small c.args.self c.end-ended.result.frame ws _ _ _ _ _ _ c.seat.view_is c.gather.ensures.of c.gather.ensures.joint c.seat.invariant c.end-ended.ensures.frame c.end-ended.ensures.ends c.requires.whole in
+    (subst (λ (t : Shape). Sized t) frame kept.sized, subst (λ (t : Shape). length ws ≡ word_count t) frame kept.wide, omega arith)

@@ -1,9 +1,5 @@
-use Rattle.std.proofs.Common.{sym, ap, ◌∙◌}
-use Rattle.quiescence.specs.Rule.{Holding}
-use Rattle.quiescence.proofs.Looks.{looked_more}
+use Rattle.quiescence.proofs.Looks.{looked_next}
 use Rattle.quiescence.proofs.round.Round.look_all.Goals as goal
 
-pub loop-n-preserved : goal.loop-n-preserved
-loop-n-preserved c =
-    let of = c.look.ensures.of ∙ sym (ap (λ (h : Holding). h.round) c.loop-n.invariant.same ∙ c.requires.of) in
-    looked_more _ _ c.loop-n.hand c.look.new.hand c.loop-m.m c.loop-n.n c.look.result c.loop-n.invariant of c.look.ensures.known (c.look.ensures.not_less, c.look.ensures.own)
+pub loop-m-preserved : goal.loop-m-preserved
+loop-m-preserved c = looked_next _ _ c.loop-m.hand _ _ c.loop-m.invariant c.look_from.ensures.looked

@@ -23,5 +23,6 @@ loop-k-preserved c =
       kept ∙ ap (λ (g : Holding). record g { account = kept_part g.account }) i.0 ∙ (λ j. record f { account = record f.account { weight = same j; collecting = sym both j } }),
       λ _. both,
       omega arith,
-      c.in_ok-push.ensures.items ∙ ap (λ l. l ++ c.split-hand.result ∷ []) i.3 ∙ ap (λ (g : Holding). replicate (k - 1) h ++ g ∷ []) hand ∙ replicate_last (k - 1) h ∙ ap (λ (n : ℕ). replicate n h) more,
+      λ e. absurd (omega arith),
+      c.in_ok-push.ensures.items ∙ ap (λ l. l ++ c.split-hand.result ∷ []) i.4 ∙ ap (λ (g : Holding). replicate (k - 1) h ++ g ∷ []) hand ∙ replicate_last (k - 1) h ∙ ap (λ (n : ℕ). replicate n h) more,
     )

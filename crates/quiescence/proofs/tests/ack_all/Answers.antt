@@ -1,7 +1,0 @@
-use Rattle.std.proofs.Common.{ap, ◌∙◌}
-use Rattle.quiet_core.specs.Account.{Account, acks}
-use Rattle.quiescence.proofs.Trials.{acked_apart}
-use Rattle.quiescence.proofs.tests.ack_all.Goals as goal
-
-pub returns-clause-others : goal.returns-clause-others
-returns-clause-others c k ne = ap (λ (a : Account). acks a k c.args.to.0) c.climb_all.ensures.same ∙ acked_apart c.ack-after.result c.args.m.0 c.args.to.0 c.args.n k c.args.hand.now.account c.ack-after.new.hand.account c.ack-after.ensures.acked ne

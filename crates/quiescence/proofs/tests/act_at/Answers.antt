@@ -1,9 +1,0 @@
-use Rattle.std.proofs.Common.{refl, ◌∙◌}
-use Rattle.quiescence.proofs.Trials.{claimed_fresh, other_met}
-use Rattle.quiescence.proofs.tests.act_at.Goals as goal
-
-pub returns-in_default-clause-others : goal.returns-in_default-clause-others
-returns-in_default-clause-others c k ne = other_met c.args.round.now.shape c.args.m.0 k _ _ _ c.claim.ensures.claim c.in_default.not-Claimed ne ∙ c.loop.invariant.3 k ne
-
-pub send-requires-clause-fresh : goal.send-requires-clause-fresh
-send-requires-clause-fresh c = claimed_fresh c.args.round.now.shape _ _ _ _ _ c.in-Claimed.ensures.claim refl

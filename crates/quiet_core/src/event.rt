@@ -1,19 +1,21 @@
-/// One atomic step of a round: what a hand does on one word, or a move of a hand.
+/// One atomic step of a round: what a hand does on one word, or a move of a hand. Hands, managers and
+/// nodes are given by their numbers, from 0, and an actor of a manager by its place `i` among those
+/// that are scheduled there.
 #[derive(Clone, Copy, Debug, PartialEq, Eq)]
 pub enum CoreEvent {
-    /// Takes the next number of the manager `m`, or finds it exhausted.
+    /// Takes the next actor of the manager `m`, or finds it exhausted.
     Claim {
         hand: u32,
         m: u32,
     },
-    /// Announces `n` letters, 1 to 1,024, of the open number `i` of `m`.
+    /// Announces `n` letters, 1 to 1,024, of the open actor `i` of `m`.
     Raise {
         hand: u32,
         m: u32,
         i: u32,
         n: u32,
     },
-    /// Issues `n` of the announced letters of the number `i` of `m` to the manager `to`.
+    /// Issues `n` of the announced letters of the actor `i` of `m` to the manager `to`.
     Post {
         hand: u32,
         m: u32,
@@ -21,7 +23,7 @@ pub enum CoreEvent {
         to: u32,
         n: u32,
     },
-    /// Reports the open number `i` of `m`, of which nothing is left to post.
+    /// Reports the open actor `i` of `m`, of which nothing is left to post.
     Done {
         hand: u32,
         m: u32,

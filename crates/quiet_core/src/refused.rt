@@ -9,13 +9,13 @@ pub enum Condition {
     NotCollecting,
     /// The hand hasn't found the manager exhausted.
     NotExhausted,
-    /// The hand has claimed the number and hasn't reported it.
+    /// The hand has claimed the actor and hasn't reported it.
     IsOpen,
-    /// Nothing was announced for the number.
+    /// Nothing was announced for the actor.
     NotAnnounced,
     /// The amount is at least 1, and no greater than what is allowed or announced.
     Amount,
-    /// All announced letters of the number are posted.
+    /// All announced letters of the actor are posted.
     AllPosted,
     /// The hand collects the letters to the manager.
     Collects,
@@ -35,7 +35,11 @@ pub enum Condition {
 /// fails, `have` is y and `need` is x; for a condition of yes or no they are 0 and 1.
 #[derive(Clone, Copy, Debug, PartialEq, Eq)]
 pub struct Refused {
+    /// The condition that fails.
     pub condition: Condition,
+    /// The greater side of the bound, which is too small; 0 for a condition of yes or no.
     pub have: u64,
+    /// The lesser side of the bound, which is too great, at most the greatest `u64`; 1 for a condition
+    /// of yes or no.
     pub need: u64,
 }

@@ -18,8 +18,10 @@ use Rattle.sim_model.proofs.Ascending.{to_increasing}
 use Rattle.actor_lifecycle.specs.Settling.{CanSettle, settled}
 
 -- where nobody shows a fault
-pub settled_calm : {A : Type 0} (m : Meaning A) (max next : ℕ) (at : Moment) (rs kept : List (Report A)) (born : List (Newborn A)) (letters : List Letter) (ids : List ActorId)
-    → first_fault m max next at rs ≡ None → kept ≡ map without_births rs → born ≡ births_of_moment m next rs → letters ≡ map birth_letter born → ids ≡ retired rs
+pub settled_calm : {A : Type 0} (m : Meaning A) (max next : ℕ) (at : Moment) (rs kept : List (Report A)) (born : List (Newborn A))
+    (letters : List Letter) (ids : List ActorId)
+    → first_fault m max next at rs ≡ None → kept ≡ map without_births rs → born ≡ births_of_moment m next rs
+    → letters ≡ map birth_letter born → ids ≡ retired rs
     → becomes.Settled kept born letters ids ≡ settled m max next at rs
 settled_calm m max next at rs kept born letters ids none emptied borne told gone = rw (none, told, borne, emptied, gone) refl
 
@@ -32,5 +34,8 @@ pub can_settle : {A : Type 0} (m : Meaning A) (p : Stage A) → IsWholeAt m p �
 can_settle m (Over e) h = tt
 can_settle {A} m (Going u) h =
     let entered : WorldState A = enter u.world u.next in
-    let told : map (λ a. a.0) (map (λ r. r.id) (reports m entered u.next)) ≡ map (λ a. a.0) entered.scheduled = ap (λ ids. map (λ a. a.0) ids) h.2 in
-    (subst IsStrictlyIncreasing (sym told ∙ numbers (reports m entered u.next)) (to_increasing entered.scheduled h.1.scheduled.ascend), omega (arith, h.1.parameters.count))
+    let told : map (λ a. a.0) (map (λ r. r.id) (reports m entered u.next)) ≡ map (λ a. a.0) entered.scheduled = ap (λ ids. map (λ a. a.0) ids) h.2 in (
+      subst IsStrictlyIncreasing (sym told ∙ numbers (reports m entered u.next))
+          (to_increasing entered.scheduled h.1.scheduled.ascend),
+      omega (arith, h.1.parameters.count),
+    )

@@ -22,8 +22,10 @@ swapped false b r = refl
 pub among-insert : (ids : List ActorId) (k id : ActorId) → is_among (insert_key actor_cmp ids k) id ≡ (nat_eq k.0 id.0 || is_among ids id)
 among-insert [] k id = refl
 among-insert (x ∷ xs) k id = placed (actor_cmp k x) (ranked k.0 x.0 (actor_cmp k x) refl) (among-insert xs k id) where
-  placed : (o : Ordering) → MatchOrdering o (k.0 < x.0) (k.0 ≡ x.0) (x.0 < k.0) → is_among (insert_key actor_cmp xs k) id ≡ (nat_eq k.0 id.0 || is_among xs id)
-      → is_among (match_ordering o (k ∷ x ∷ xs) (x ∷ xs) (x ∷ insert_key actor_cmp xs k)) id ≡ (nat_eq k.0 id.0 || (nat_eq x.0 id.0 || is_among xs id))
+  placed : (o : Ordering) → MatchOrdering o (k.0 < x.0) (k.0 ≡ x.0) (x.0 < k.0)
+      → is_among (insert_key actor_cmp xs k) id ≡ (nat_eq k.0 id.0 || is_among xs id)
+      → is_among (match_ordering o (k ∷ x ∷ xs) (x ∷ xs) (x ∷ insert_key actor_cmp xs k)) id ≡
+      (nat_eq k.0 id.0 || (nat_eq x.0 id.0 || is_among xs id))
   placed Less m later = refl
   placed Equal m later = once (nat_eq k.0 id.0) (nat_eq x.0 id.0) (is_among xs id) (ap (λ n. nat_eq n id.0) m)
   placed Greater m later = ap (λ r. nat_eq x.0 id.0 || r) later ∙ swapped (nat_eq k.0 id.0) (nat_eq x.0 id.0) (is_among xs id)
@@ -32,7 +34,8 @@ or_none : (a : Bool) → (a || false) ≡ a
 or_none true = refl
 or_none false = refl
 
-among-fold : (ids done : List ActorId) (id : ActorId) → is_among (fold (λ done id. insert_key actor_cmp done id) done ids) id ≡ (is_among ids id || is_among done id)
+among-fold : (ids done : List ActorId) (id : ActorId)
+    → is_among (fold (λ done id. insert_key actor_cmp done id) done ids) id ≡ (is_among ids id || is_among done id)
 among-fold [] done id = refl
 among-fold (k ∷ ids) done id =
     among-fold ids (insert_key actor_cmp done k) id ∙ ap (λ r. is_among ids id || r) (among-insert done k id)

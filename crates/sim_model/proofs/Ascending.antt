@@ -27,7 +27,8 @@ pairs_tail R x xs h i j d lt within = h (suc i) (suc j) d (omega (arith, lt)) (o
 pub pairs_weaker : {X : Type 0} (R S : X → X → Type 0) → ((a b : X) → R a b → S a b) → (xs : List X) → AllPairs R xs → AllPairs S xs
 pairs_weaker R S f xs h i j d lt within = f _ _ (h i j d lt within)
 
-pub pairs_append : {X : Type 0} (R : X → X → Type 0) (xs ys : List X) → AllPairs R xs → AllPairs R ys → All (λ x. All (R x) ys) xs → AllPairs R (xs ++ ys)
+pub pairs_append : {X : Type 0} (R : X → X → Type 0) (xs ys : List X) → AllPairs R xs → AllPairs R ys → All (λ x. All (R x) ys) xs
+    → AllPairs R (xs ++ ys)
 pairs_append R [] ys h k cross = k
 pairs_append R (x ∷ xs) ys h k cross =
     AllPairs-cons R x (xs ++ ys) (All-append (R x) xs ys (pairs_head R x xs h) (All-head (λ x. All (R x) ys) x xs cross))
@@ -36,16 +37,20 @@ pairs_append R (x ∷ xs) ys h k cross =
 pub pairs_map : {X Y : Type 0} (R : Y → Y → Type 0) (f : X → Y) (xs : List X) → AllPairs (λ a b. R (f a) (f b)) xs → AllPairs R (map f xs)
 pairs_map R f [] h = pairs_nil R
 pairs_map R f (x ∷ xs) h =
-    AllPairs-cons R (f x) (map f xs) (All-map (R (f x)) f xs (pairs_head (λ a b. R (f a) (f b)) x xs h)) (pairs_map R f xs (pairs_tail (λ a b. R (f a) (f b)) x xs h))
+    AllPairs-cons R (f x) (map f xs) (All-map (R (f x)) f xs (pairs_head (λ a b. R (f a) (f b)) x xs h))
+    (pairs_map R f xs (pairs_tail (λ a b. R (f a) (f b)) x xs h))
 
 -- an element at its place
-pub pairs_insert : {K : Type 0} (cmp : K → K → Ordering) (R : K → K → Type 0) → ((a b c : K) → R a b → R b c → R a c) → ((a b : K) → cmp a b ≡ Less → R a b)
+pub pairs_insert : {K : Type 0} (cmp : K → K → Ordering) (R : K → K → Type 0) → ((a b c : K) → R a b → R b c → R a c)
+    → ((a b : K) → cmp a b ≡ Less → R a b)
     → ((a b : K) → cmp a b ≡ Greater → R b a) → (k : K) (xs : List K) → AllPairs R xs → AllPairs R (insert_key cmp xs k)
 pairs_insert cmp R trans less greater k [] h = AllPairs-cons R k [] (All-nil (R k)) h
 pairs_insert cmp R trans less greater k (x ∷ xs) h = placed (cmp k x) refl (pairs_insert cmp R trans less greater k xs (pairs_tail R x xs h)) where
-  placed : (o : Ordering) → cmp k x ≡ o → AllPairs R (insert_key cmp xs k) → AllPairs R (match_ordering o (k ∷ x ∷ xs) (x ∷ xs) (x ∷ insert_key cmp xs k))
+  placed : (o : Ordering) → cmp k x ≡ o → AllPairs R (insert_key cmp xs k)
+      → AllPairs R (match_ordering o (k ∷ x ∷ xs) (x ∷ xs) (x ∷ insert_key cmp xs k))
   placed Less e more =
-      AllPairs-cons R k (x ∷ xs) (All-cons (R k) x xs (less k x e) (All-weaker (R x) (R k) (λ y r. trans k x y (less k x e) r) xs (pairs_head R x xs h))) h
+      AllPairs-cons R k (x ∷ xs)
+      (All-cons (R k) x xs (less k x e) (All-weaker (R x) (R k) (λ y r. trans k x y (less k x e) r) xs (pairs_head R x xs h))) h
   placed Equal e more = h
   placed Greater e more = AllPairs-cons R x (insert_key cmp xs k) (All-insert_key cmp k (R x) xs (pairs_head R x xs h) (greater k x e)) more
 
@@ -58,13 +63,15 @@ all_found {X} {Y} h P Q f (x ∷ xs) a = with_first (h x) refl (all_found h P Q 
   with_first None e more = more
   with_first (Some y) e more = All-cons Q y (filter_map h xs) (f x y (All-head P x xs a) e) more
 
-pub pairs_found : {X Y : Type 0} (h : X → Option Y) (R : X → X → Type 0) (S : Y → Y → Type 0) → ((a b : X) (y z : Y) → R a b → h a ≡ Some y → h b ≡ Some z → S y z)
+pub pairs_found : {X Y : Type 0} (h : X → Option Y) (R : X → X → Type 0) (S : Y → Y → Type 0)
+    → ((a b : X) (y z : Y) → R a b → h a ≡ Some y → h b ≡ Some z → S y z)
     → (xs : List X) → AllPairs R xs → AllPairs S (filter_map h xs)
 pairs_found h R S f [] a = pairs_nil S
 pairs_found {X} {Y} h R S f (x ∷ xs) a = with_first (h x) refl (pairs_found h R S f xs (pairs_tail R x xs a)) where
   with_first : (o : Option Y) → h x ≡ o → AllPairs S (filter_map h xs) → AllPairs S (cons_option o (filter_map h xs))
   with_first None e more = more
-  with_first (Some y) e more = AllPairs-cons S y (filter_map h xs) (all_found h (R x) (S y) (λ b z r found. f x b y z r e found) xs (pairs_head R x xs a)) more
+  with_first (Some y) e more = AllPairs-cons S y (filter_map h xs)
+      (all_found h (R x) (S y) (λ b z r found. f x b y z r e found) xs (pairs_head R x xs a)) more
 
 -- ---- actors
 
@@ -89,10 +96,12 @@ ascend_insert id ids h = pairs_insert actor_cmp (λ a b. a.0 < b.0) (λ a b c r 
 
 unmapped : {X : Type 0} (f : X → ℕ) (xs : List X) → AllPairs (λ a b. a < b) (map f xs) → AllPairs (λ x y. f x < f y) xs
 unmapped f [] h = pairs_nil (λ x y. f x < f y)
-unmapped f (x ∷ xs) h = AllPairs-cons (λ x y. f x < f y) x xs (below f x xs (pairs_head (λ a b. a < b) (f x) (map f xs) h)) (unmapped f xs (pairs_tail (λ a b. a < b) (f x) (map f xs) h)) where
-  below : {X : Type 0} (f : X → ℕ) (x : X) (xs : List X) → All (λ b. f x < b) (map f xs) → All (λ y. f x < f y) xs
-  below f x [] h = All-nil (λ y. f x < f y)
-  below f x (y ∷ ys) h = All-cons (λ y. f x < f y) y ys (All-head (λ b. f x < b) (f y) (map f ys) h) (below f x ys (All-tail (λ b. f x < b) (f y) (map f ys) h))
+unmapped f (x ∷ xs) h = AllPairs-cons (λ x y. f x < f y) x xs (below f x xs (pairs_head (λ a b. a < b) (f x) (map f xs) h))
+    (unmapped f xs (pairs_tail (λ a b. a < b) (f x) (map f xs) h)) where
+      below : {X : Type 0} (f : X → ℕ) (x : X) (xs : List X) → All (λ b. f x < b) (map f xs) → All (λ y. f x < f y) xs
+      below f x [] h = All-nil (λ y. f x < f y)
+      below f x (y ∷ ys) h = All-cons (λ y. f x < f y) y ys (All-head (λ b. f x < b) (f y) (map f ys) h)
+          (below f x ys (All-tail (λ b. f x < b) (f y) (map f ys) h))
 
 pub from_increasing : {X : Type 0} (f : X → ℕ) (xs : List X) → IsStrictlyIncreasing (map f xs) → AllPairs (λ x y. f x < f y) xs
 from_increasing f xs h = unmapped f xs (AllPairs-from_increasing (map f xs) h)

@@ -1,5 +1,6 @@
 -- What follows where nobody shows a fault.
-use Rattle.std.proofs.Common.{◌≡◌, ◌+◌, ◌-◌, ◌≤◌, ◌||◌, nat_lt, sym, ◌∙◌, arith, ℕ, suc, Bool, true, false, List, [], ◌∷◌, length, Option, Some, None, refl}
+use Rattle.std.proofs.Common.{◌≡◌, ◌+◌, ◌-◌, ◌≤◌, ◌||◌, nat_lt, sym, ◌∙◌, arith, ℕ, suc, Bool, true, false, List, [], ◌∷◌, length, Option}
+use Rattle.std.proofs.Common.{Some, None, refl}
 use Rattle.std.specs.List.{All, fold}
 use Rattle.std.proofs.lemmas.Bool.Decides.{nat_tests}
 use Rattle.std.proofs.lemmas.List.Elements.{All-nil, All-cons}
@@ -38,7 +39,8 @@ pub calm : {A : Type 0} (m : Meaning A) (at : Moment) (past : Bool) (r : Report 
 calm m at past r none =
     let o = r.outcome in
     let unknown : Option ℕ = when (samples_unknown (length (m.probes o.state)) o.samples) 903 in
-    let rest = neither o.fault (option_or (when (asks_past at.tick o.ticks) 900) (option_or (when (gives_too_many o) 901) (option_or (when past 902) unknown))) none in
+    let rest = neither o.fault
+    (option_or (when (asks_past at.tick o.ticks) 900) (option_or (when (gives_too_many o) 901) (option_or (when past 902) unknown))) none in
     let later = neither (when (asks_past at.tick o.ticks) 900) (option_or (when (gives_too_many o) 901) (option_or (when past 902) unknown)) rest.1 in
     let few = neither (when (gives_too_many o) 901) (option_or (when past 902) unknown) later.1 in
     let room = neither (when past 902) unknown few.1 in
@@ -50,12 +52,17 @@ calm m at past r none =
     }
 
 -- where a moment shows no fault, its first actor shows none, and the others show none
-pub first_calm : {A : Type 0} (m : Meaning A) (max next : ℕ) (at : Moment) (r : Report A) (rs : List (Report A)) → first_fault m max next at (r ∷ rs) ≡ None
+pub first_calm : {A : Type 0} (m : Meaning A) (max next : ℕ) (at : Moment) (r : Report A) (rs : List (Report A))
+    → first_fault m max next at (r ∷ rs) ≡ None
     → IsCalm m at (bears_past max next (length r.outcome.births)) r × (first_fault m max (next + length r.outcome.births) at rs ≡ None)
 first_calm m max next at r rs none =
-    let shown = option_map (λ code. record { actor = r.id; code = code }) (fault_among m r.outcome at (bears_past max next (length r.outcome.births))) in
-    let parts = neither shown (first_fault m max (next + length r.outcome.births) at rs) none in
-    (calm m at (bears_past max next (length r.outcome.births)) r (not_mapped (λ code. record { actor = r.id; code = code }) (fault_among m r.outcome at (bears_past max next (length r.outcome.births))) parts.0), parts.1)
+    let shown = option_map (λ code. record { actor = r.id; code = code })
+    (fault_among m r.outcome at (bears_past max next (length r.outcome.births))) in
+    let parts = neither shown (first_fault m max (next + length r.outcome.births) at rs) none in (
+      calm m at (bears_past max next (length r.outcome.births)) r (not_mapped (λ code. record { actor = r.id; code = code })
+          (fault_among m r.outcome at (bears_past max next (length r.outcome.births))) parts.0),
+      parts.1,
+    )
 
 pub asks_rise : {A : Type 0} (m : Meaning A) (max next : ℕ) (at : Moment) (rs : List (Report A)) (ds : List Due)
     → first_fault m max next at rs ≡ None → RisesFrom (suc at.tick) ds → RisesFrom (suc at.tick) (fold ask_of ds rs)
@@ -74,7 +81,8 @@ pub sends_fit : {A : Type 0} (m : Meaning A) (max next : ℕ) (at : Moment) (rs 
 sends_fit m max next at [] none = All-nil _
 sends_fit m max next at (r ∷ rs) none =
     let parts = first_calm m max next at r rs none in
-    let few : is_too_many r.outcome.sends ≡ false = first_of_four (is_too_many r.outcome.sends) (is_too_many r.outcome.ticks) (is_too_many r.outcome.births) (is_too_many r.outcome.samples) parts.0.few in
+    let few : is_too_many r.outcome.sends ≡ false = first_of_four (is_too_many r.outcome.sends) (is_too_many r.outcome.ticks)
+    (is_too_many r.outcome.births) (is_too_many r.outcome.samples) parts.0.few in
     let fits : length r.outcome.sends ≤ 1024 = grind (arith, nat_tests, few) in
     All-cons (λ q. length q.outcome.sends ≤ 1024) r rs fits (sends_fit m max (next + length r.outcome.births) at rs parts.1)
 

@@ -7,7 +7,8 @@ use Rattle.sim_base.specs.declared.ids.ActorId.{ActorId}
 use Rattle.actor_trait.specs.Meaning.{Meaning}
 use Rattle.actor_trait.specs.declared.letter.Letter.{Letter}
 use Rattle.sim_model.specs.Births.{births_of_moment, member_born, without_births}
-use Rattle.sim_model.specs.Moment.{agenda_after, ask_of, close, close_with, dead_among, is_alive, letters_of, next_id, put_state, retired, sends_of, states_after}
+use Rattle.sim_model.specs.Moment.{agenda_after, ask_of, close, close_with, dead_among, is_alive, letters_of, next_id, put_state, retired}
+use Rattle.sim_model.specs.Moment.{sends_of, states_after}
 use Rattle.agenda.specs.declared.due.Due.{Due}
 use Rattle.sim_model.specs.declared.births.Newborn.{Newborn}
 use Rattle.sim_model.specs.declared.cast.Member.{Member}
@@ -21,13 +22,15 @@ pub closed : {A : Type 0} (m : Meaning A) (w : WorldState A) (rs : List (Report 
     → ids ≡ map (λ b. b.id) born → none ≡ [] → cast ≡ w.cast ++ map (member_born m) born
     → dead ≡ min (w.dead_letters + dead_among states (letters_of rs born)) (2 ^ 64 - 1)
     → record w { states = states; agenda = agenda; letters = letters; newborn = ids; scheduled = none; cast = cast; dead_letters = dead } ≡ close_with m w rs born
-closed m w rs born states agenda letters ids none cast dead after due sent named empty known counted = rw (sent, counted, after, due, named, empty, known) refl
+closed m w rs born states agenda letters ids none cast dead after due sent named empty known counted = rw
+    (sent, counted, after, due, named, empty, known) refl
 
 retired_without : {A : Type 0} (rs : List (Report A)) → retired (map without_births rs) ≡ retired rs
 retired_without [] = refl
 retired_without {A} (r ∷ rs) = told r.outcome.retire (retired_without rs) where
   told : (b : Bool) → retired (map without_births rs) ≡ retired rs
-      → map {A = Report A} (λ r. r.id) (cond b (without_births r ∷ filter (λ r. r.outcome.retire) (map without_births rs)) (filter (λ r. r.outcome.retire) (map without_births rs)))
+      → map {A = Report A} (λ r. r.id) (cond b (without_births r ∷ filter (λ r. r.outcome.retire) (map without_births rs))
+      (filter (λ r. r.outcome.retire) (map without_births rs)))
       ≡ map (λ r. r.id) (cond b (r ∷ filter (λ r. r.outcome.retire) rs) (filter (λ r. r.outcome.retire) rs))
   told true e = ap (λ ids. r.id ∷ ids) e
   told false e = e
@@ -53,5 +56,6 @@ pub sends_kept : {A : Type 0} (rs kept : List (Report A)) → kept ≡ map witho
 sends_kept rs kept emptied few = rw emptied (All-map (λ r. length r.outcome.sends ≤ 1024) without_births rs few)
 
 -- they ascend as before
-pub ascend_kept : {A : Type 0} (rs kept : List (Report A)) → kept ≡ map without_births rs → AllPairs (λ r q. r.id.0 < q.id.0) rs → AllPairs (λ r q. r.id.0 < q.id.0) kept
+pub ascend_kept : {A : Type 0} (rs kept : List (Report A)) → kept ≡ map without_births rs → AllPairs (λ r q. r.id.0 < q.id.0) rs
+    → AllPairs (λ r q. r.id.0 < q.id.0) kept
 ascend_kept rs kept emptied up = rw emptied (pairs_map (λ r q. r.id.0 < q.id.0) without_births rs up)

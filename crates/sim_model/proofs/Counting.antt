@@ -24,11 +24,13 @@ pub record Passes {A : Type 0} (m : Meaning A) (max room : ℕ) (at : Moment) (r
   pub next : next_after (max + 1 - (room - length r.outcome.births)) (drop (i + 1) rs) ≡ next_after (max + 1 - room) (drop i rs)
 
 pub passes : {A : Type 0} (m : Meaning A) (max room : ℕ) (at : Moment) (rs : List (Report A)) (i : ℕ) (r : Report A)
-    → i < length rs → r ≡ get_or rs i r → room ≤ max + 1 → fault_among m r.outcome at (nat_lt room (length r.outcome.births)) ≡ None → Passes m max room at rs i r
+    → i < length rs → r ≡ get_or rs i r → room ≤ max + 1 → fault_among m r.outcome at (nat_lt room (length r.outcome.births)) ≡ None
+    → Passes m max room at rs i r
 passes m max room at rs i r lt is le none =
     let n = length r.outcome.births in
     let split : drop i rs ≡ r ∷ drop (i + 1) rs = drop_item rs i r lt is in
     let fits : length r.outcome.births ≤ room = grind (arith, nat_tests, (calm m at (nat_lt room n) r none).room) in
     let next : max + 1 - room + length r.outcome.births ≡ max + 1 - (room - length r.outcome.births) = omega (arith, fits, le) in
-    let calm : fault_among m r.outcome at (bears_past max (max + 1 - room) (length r.outcome.births)) ≡ None = rw (bears_past-room max room r le) none in
+    let calm : fault_among m r.outcome at (bears_past max (max + 1 - room) (length r.outcome.births)) ≡ None = rw
+    (bears_past-room max room r le) none in
     record { fits = fits; fault = rw (split, calm, next) refl; next = rw (split, ← next) refl }

@@ -20,7 +20,8 @@ due_cmp d x = ordering_then (nat_cmp d.tick x.tick) (nat_cmp d.actor.0 x.actor.0
 pub insert_adds : (d : Due) (ds : List Due) → insert_key due_cmp ds d ≡ add_due d ds
 insert_adds d [] = refl
 insert_adds d (x ∷ xs) =
-    placed (nat_cmp d.tick x.tick) (nat_cmp d.actor.0 x.actor.0) (ranked d.tick x.tick _ refl) (ranked d.actor.0 x.actor.0 _ refl) (insert_adds d xs) where
+    placed (nat_cmp d.tick x.tick) (nat_cmp d.actor.0 x.actor.0) (ranked d.tick x.tick _ refl) (ranked d.actor.0 x.actor.0 _ refl)
+    (insert_adds d xs) where
       placed : (o p : Ordering) → MatchOrdering o (d.tick < x.tick) (d.tick ≡ x.tick) (x.tick < d.tick)
           → MatchOrdering p (d.actor.0 < x.actor.0) (d.actor.0 ≡ x.actor.0) (x.actor.0 < d.actor.0) → insert_key due_cmp xs d ≡ add_due d xs
           → match_ordering (ordering_then o p) (d ∷ x ∷ xs) (x ∷ xs) (x ∷ insert_key due_cmp xs d)

@@ -16,7 +16,11 @@ pub record CallsAt {A : Type 0} (w : WorldState A) (at : Moment) : Type 0 where
   pub agenda : agenda_at w at ≡ w.agenda
 
 pub calls_at : {A : Type 0} (w : WorldState A) (at : Moment) → nat_eq at.diasca 0 ≡ false → CallsAt w at
-calls_at {A} w at later = record { scheduled = who (nat_eq at.tick 0) (nat_eq at.diasca 0) later; agenda = what (nat_eq at.tick 0) (nat_eq at.diasca 0) later } where
+calls_at {A} w at later = record {
+  scheduled = who (nat_eq at.tick 0) (nat_eq at.diasca 0) later;
+  agenda = what (nat_eq at.tick 0)
+      (nat_eq at.diasca 0) later;
+} where
   who : (a b : Bool) → b ≡ false
       → cond (a && b) (living_from 1 w.states) (cond (not a && b) (due_at at.tick w.agenda) (called w.newborn w.letters)) ≡ called w.newborn w.letters
   who a true e = cc

@@ -1,5 +1,6 @@
 -- Each moment of a run is later than the one before, so a run ends.
-use Rattle.std.proofs.Common.{◌≡◌, ℕ, zero, suc, ◌+◌, ◌*◌, ◌-◌, ◌<◌, ◌≤◌, Bool, true, false, not, ◌&&◌, cond, nat_eq, nat_lt, List, [], ◌∷◌, ◌++◌, Option, Some, None, length, map, zero-add, suc-add, arith, length-append, refl, sym, ◌∙◌, ap, subst}
+use Rattle.std.proofs.Common.{◌≡◌, ℕ, zero, suc, ◌+◌, ◌*◌, ◌-◌, ◌<◌, ◌≤◌, Bool, true, false, not, ◌&&◌, cond, nat_eq, nat_lt, List, [], ◌∷◌}
+use Rattle.std.proofs.Common.{◌++◌, Option, Some, None, length, map, zero-add, suc-add, arith, length-append, refl, sym, ◌∙◌, ap, subst}
 use Rattle.std.specs.List.{fold, flat_map}
 use Rattle.std.proofs.lemmas.Bool.Decides.{nat_tests}
 use Rattle.std.proofs.lemmas.Grind.{common_steps}
@@ -11,7 +12,8 @@ use Rattle.sim_base.specs.declared.moment.Row.{Row}
 use Rattle.actor_trait.specs.Meaning.{Meaning}
 use Rattle.agenda.specs.Dues.{without_tick}
 use Rattle.agenda.specs.declared.due.Due.{Due}
-use Rattle.sim_model.specs.Moment.{ask_of, close, enter, fault_of_moment, first_fault, is_spontaneous, next_for, is_among, next_id, next_tick, put_state, reports, retired, rows_of, scheduled, what_comes_next}
+use Rattle.sim_model.specs.Moment.{ask_of, close, enter, fault_of_moment, first_fault, is_spontaneous, next_for, is_among, next_id}
+use Rattle.sim_model.specs.Moment.{next_tick, put_state, reports, retired, rows_of, scheduled, what_comes_next}
 use Rattle.sim_model.specs.Births.{births_of_moment}
 use Rattle.sim_model.specs.Run.{IsRun, RunEnds, RunGoesOn, follow, go_on, judge, most_moments, results_of, opening, run_after, run_from, run_of, step}
 use Rattle.sim_model.specs.SetupParts.{SetupParts}
@@ -81,22 +83,37 @@ next_tick_later p at next (d ∷ ds) low h e = told (nat_lt p.last_tick d.tick) 
       let same : first ≡ next = cc in
       let fits : d.tick ≤ p.last_tick = grind (arith, nat_tests, t) in
       let lt : at.tick < d.tick = omega (arith, h.0) in
-      let goes : Later p at (d ∷ ds) first = record { tick = fits; diasca = omega (arith, low); rank = rank_grows at.tick d.tick p.diasca_limit at.diasca 0 lt low; agenda = rw (floor_first d.tick (omega (arith, lt))) (omega arith, h.1) } in
+      let goes : Later p at (d ∷ ds) first = record {
+        tick = fits;
+        diasca = omega
+            (arith, low);
+        rank = rank_grows at.tick d.tick p.diasca_limit at.diasca 0 lt low;
+        agenda = rw
+            (floor_first d.tick (omega (arith, lt))) (omega arith, h.1);
+      } in
       rw same at goes
 
-next_for_later : {A : Type 0} (w : WorldState A) (at next : Moment) (ids : List ActorId) → at.tick ≤ w.parameters.last_tick → at.diasca < w.parameters.diasca_limit
+next_for_later : {A : Type 0} (w : WorldState A) (at next : Moment) (ids : List ActorId) → at.tick ≤ w.parameters.last_tick
+    → at.diasca < w.parameters.diasca_limit
     → RisesFrom (suc at.tick) w.agenda → next_for w at ids ≡ Enters next → Later w.parameters at w.agenda next
 next_for_later w at next [] fits low h e = next_tick_later w.parameters at next w.agenda low h e
 next_for_later w at next (id ∷ ids) fits low h e = told (nat_eq (at.diasca + 1) w.parameters.diasca_limit) refl e where
   second : Moment
   second = record { tick = at.tick; diasca = at.diasca + 1 }
 
-  told : (b : Bool) → nat_eq (at.diasca + 1) w.parameters.diasca_limit ≡ b → cond b (Ends ending.DiascaLimit) (Enters second) ≡ Enters next → Later w.parameters at w.agenda next
+  told : (b : Bool) → nat_eq (at.diasca + 1) w.parameters.diasca_limit ≡ b → cond b (Ends ending.DiascaLimit) (Enters second) ≡ Enters next
+      → Later w.parameters at w.agenda next
   told true t e2 = cc
   told false t e2 =
       let same : second ≡ next = cc in
       let below : at.diasca + 1 < w.parameters.diasca_limit = grind (arith, nat_tests, t, low) in
-      let goes : Later w.parameters at w.agenda second = record { tick = fits; diasca = below; rank = omega arith; agenda = rw (floor_later at.tick at.diasca) h } in
+      let goes : Later w.parameters at w.agenda second = record {
+        tick = fits;
+        diasca = below;
+        rank = omega arith;
+        agenda = rw
+            (floor_later at.tick at.diasca) h;
+      } in
       rw same at goes
 
 -- ---- what holds of each moment that is entered
@@ -148,18 +165,22 @@ pub record StepsOn {A : Type 0} (at : Moment) (closed : WorldState A) (u : Under
   pub count : length closed.states ≤ closed.parameters.max_actors
 
 -- nobody is born past the last number
-pub closed_count : {A : Type 0} (m : Meaning A) (max : ℕ) (at : Moment) (w : WorldState A) (rs : List (Report A)) → first_fault m max (next_id w) at rs ≡ None
+pub closed_count : {A : Type 0} (m : Meaning A) (max : ℕ) (at : Moment) (w : WorldState A) (rs : List (Report A))
+    → first_fault m max (next_id w) at rs ≡ None
     → length w.states ≤ max → length (close m w rs).states ≤ max
 closed_count {A} m max at w rs none le =
     let born : List (Newborn A) = births_of_moment m (next_id w) rs in
     let state_of_birth : Newborn A → Option A = λ b. Some b.state in
     let all : length (close m w rs).states ≡ length w.states + length born =
     length-append (fold put_state w.states rs) (map state_of_birth born)
-    ∙ ap (λ n. n + length (map state_of_birth born)) (put_states-length rs w.states) ∙ ap (λ n. length w.states + n) (length-map born state_of_birth) in
+    ∙ ap (λ n. n + length (map state_of_birth born)) (put_states-length rs w.states) ∙ ap (λ n. length w.states + n)
+    (length-map born state_of_birth) in
     omega (arith, all, births-length m rs (next_id w), numbers_fit m max (next_id w) at rs none (omega (arith, le)))
 
-judge_going : {A : Type 0} (m : Meaning A) (at : Moment) (w : WorldState A) (rows : List Row) (rs : List (Report A)) (o : Option Fault) (u : Underway A)
-    → at.tick ≤ w.parameters.last_tick → at.diasca < w.parameters.diasca_limit → length w.states ≤ w.parameters.max_actors → fault_of_moment m w at rs ≡ o → RisesFrom (suc at.tick) w.agenda
+judge_going : {A : Type 0} (m : Meaning A) (at : Moment) (w : WorldState A) (rows : List Row) (rs : List (Report A)) (o : Option Fault)
+    (u : Underway A)
+    → at.tick ≤ w.parameters.last_tick → at.diasca < w.parameters.diasca_limit → length w.states ≤ w.parameters.max_actors
+    → fault_of_moment m w at rs ≡ o → RisesFrom (suc at.tick) w.agenda
     → judge m at w rows rs o ≡ Going u → StepsOn at (close m w rs) u
 judge_going m at w rows rs (Some f) u fits low count none h e = cc
 judge_going m at w rows rs None u fits low count none h e =
@@ -167,7 +188,8 @@ judge_going m at w rows rs None u fits low count none h e =
     record {
       last = goes.last;
       later = next_for_later (close m w rs) at u.next (scheduled (close m w rs) (record { tick = at.tick; diasca = at.diasca + 1 })) fits low
-          (filter_rises (λ d. not (is_among (retired rs) d.actor)) (suc at.tick) (fold ask_of w.agenda rs) (asks_rise m w.parameters.max_actors (next_id w) at rs w.agenda none h)) goes.next;
+          (filter_rises (λ d. not (is_among (retired rs) d.actor)) (suc at.tick) (fold ask_of w.agenda rs)
+          (asks_rise m w.parameters.max_actors (next_id w) at rs w.agenda none h)) goes.next;
       world = goes.world;
       count = closed_count m w.parameters.max_actors at w rs none count;
     }
@@ -186,15 +208,18 @@ step_sound {A} m u next h e =
     let sound : Sound closed next.next = record { tick = on.later.tick; diasca = on.later.diasca; agenda = on.later.agenda; count = on.count } in
     subst (λ w. Sound w next.next) on.world sound
 
-pub step_parameters : {A : Type 0} (m : Meaning A) (u next : Underway A) → Sound u.world u.next → step m u ≡ Going next → next.world.parameters ≡ u.world.parameters
+pub step_parameters : {A : Type 0} (m : Meaning A) (u next : Underway A) → Sound u.world u.next → step m u ≡ Going next
+    → next.world.parameters ≡ u.world.parameters
 step_parameters m u next h e = sym (ap (λ w. w.parameters) (step_going m u next h e).world)
 
-pub step_rank : {A : Type 0} (m : Meaning A) (u next : Underway A) → Sound u.world u.next → step m u ≡ Going next → rank u.world.parameters u.next < rank u.world.parameters next.next
+pub step_rank : {A : Type 0} (m : Meaning A) (u next : Underway A) → Sound u.world u.next → step m u ≡ Going next
+    → rank u.world.parameters u.next < rank u.world.parameters next.next
 step_rank m u next h e = (step_going m u next h e).later.rank
 
 -- ---- the whole run
 
-pub rank_below_most : {A : Type 0} (s : SetupParts A) (at : Moment) → at.tick ≤ s.last_tick → at.diasca < s.diasca_limit → rank (parameters_of s) at < most_moments s
+pub rank_below_most : {A : Type 0} (s : SetupParts A) (at : Moment) → at.tick ≤ s.last_tick → at.diasca < s.diasca_limit
+    → rank (parameters_of s) at < most_moments s
 rank_below_most s at tick diasca =
     let lt : at.tick < s.last_tick + 1 = omega (arith, tick) in
     omega (arith, rank_grows at.tick (s.last_tick + 1) s.diasca_limit at.diasca 0 lt diasca)
@@ -207,11 +232,18 @@ pub record IsFine {A : Type 0} (s : SetupParts A) (u : Underway A) (k : ℕ) : T
 
 pub fine_below : {A : Type 0} (s : SetupParts A) (u : Underway A) (k : ℕ) → IsFine s u k → rank (parameters_of s) u.next < most_moments s
 fine_below s u k h =
-    rank_below_most s u.next (subst (λ p. u.next.tick ≤ p.last_tick) h.parameters h.sound.tick) (subst (λ p. u.next.diasca < p.diasca_limit) h.parameters h.sound.diasca)
+    rank_below_most s u.next (subst (λ p. u.next.tick ≤ p.last_tick) h.parameters h.sound.tick)
+    (subst (λ p. u.next.diasca < p.diasca_limit) h.parameters h.sound.diasca)
 
 pub fine_start : {A : Type 0} (m : Meaning A) (s : SetupParts A) → IsSetup s → IsFine s (opening m s) 0
 fine_start m s setup = record {
-  sound = record { tick = omega arith; diasca = omega (arith, setup.some_diasca); agenda = tt; count = simp length-map (omega (arith, setup.actors)) };
+  sound = record {
+    tick = omega arith;
+    diasca = omega (arith, setup.some_diasca);
+    agenda = tt;
+    count = simp length-map
+        (omega (arith, setup.actors));
+  };
   parameters = refl;
   within = omega arith;
 }
@@ -220,7 +252,8 @@ pub fine_rank : {A : Type 0} (m : Meaning A) (s : SetupParts A) (u next : Underw
     → rank (parameters_of s) u.next < rank (parameters_of s) next.next
 fine_rank m s u next k h e = subst (λ p. rank p u.next < rank p next.next) h.parameters (step_rank m u next h.sound e)
 
-pub fine_next : {A : Type 0} (m : Meaning A) (s : SetupParts A) (u next : Underway A) (k : ℕ) → IsFine s u k → step m u ≡ Going next → IsFine s next (suc k)
+pub fine_next : {A : Type 0} (m : Meaning A) (s : SetupParts A) (u next : Underway A) (k : ℕ) → IsFine s u k → step m u ≡ Going next
+    → IsFine s next (suc k)
 fine_next m s u next k h e = record {
   sound = step_sound m u next h.sound e;
   parameters = step_parameters m u next h.sound e ∙ h.parameters;
@@ -236,7 +269,8 @@ unfolding run_from go_on
 stays m p e k zero h = rw zero-add h
 stays m p e k (suc j) h = rw suc-add (ap (λ q. go_on m q) (stays m p e k j h))
 
-pub fine_end : {A : Type 0} (m : Meaning A) (s : SetupParts A) (u : Underway A) (e : Ended A) (k : ℕ) → IsFine s u k → run_after m s k ≡ Going u → step m u ≡ Over e → IsRun m s (results_of e)
+pub fine_end : {A : Type 0} (m : Meaning A) (s : SetupParts A) (u : Underway A) (e : Ended A) (k : ℕ) → IsFine s u k
+    → run_after m s k ≡ Going u → step m u ≡ Over e → IsRun m s (results_of e)
 fine_end m s u e k h there over =
     let fits : suc k ≤ most_moments s = omega (arith, fine_below s u k h, h.within) in
     let all : (most_moments s - suc k) + suc k ≡ most_moments s = omega arith in
@@ -249,7 +283,8 @@ abbrev pub FineAt : {A : Type 0} → SetupParts A → Stage A → ℕ → Type 0
 FineAt s (Going u) k = IsFine s u k
 FineAt s (Over e) k = Unit {0}
 
-step_fine : {A : Type 0} (m : Meaning A) (s : SetupParts A) (u : Underway A) (k : ℕ) → IsFine s u k → (p : Stage A) → step m u ≡ p → FineAt s p (suc k)
+step_fine : {A : Type 0} (m : Meaning A) (s : SetupParts A) (u : Underway A) (k : ℕ) → IsFine s u k → (p : Stage A) → step m u ≡ p
+    → FineAt s p (suc k)
 step_fine m s u k h (Going next) e = fine_next m s u next k h e
 step_fine m s u k h (Over x) e = tt
 

@@ -1,5 +1,6 @@
 -- Each world that a run comes to is whole.
-use Rattle.std.proofs.Common.{◌≡◌, ℕ, zero, suc, ◌+◌, ◌-◌, ◌<◌, ◌≤◌, Bool, true, false, not, cond, nat_eq, List, [], ◌∷◌, ◌++◌, length, map, slice_get, Option, Some, None, arith, append_assoc, length-append, refl, ap, ◌∙◌, subst}
+use Rattle.std.proofs.Common.{◌≡◌, ℕ, zero, suc, ◌+◌, ◌-◌, ◌<◌, ◌≤◌, Bool, true, false, not, cond, nat_eq, List, [], ◌∷◌, ◌++◌, length, map}
+use Rattle.std.proofs.Common.{slice_get, Option, Some, None, arith, append_assoc, length-append, refl, ap, ◌∙◌, subst}
 use Rattle.std.specs.BTreeSet.{insert_key}
 use Rattle.std.specs.List.{All, AllPairs, AllZip, filter, flat_map, fold}
 use Rattle.std.proofs.lemmas.Bool.Decides.{nat_tests}
@@ -15,7 +16,9 @@ use Rattle.actor_trait.specs.declared.letter.Letter.{Letter}
 use Rattle.agenda.specs.Dues.{IsBelow, Rises, add_due, comes_before, due_at, without_tick}
 use Rattle.sim_model.specs.Births.{births_from, births_of_moment, member_born}
 use Rattle.sim_model.specs.Cast.{members_from}
-use Rattle.sim_model.specs.Moment.{actor_cmp, agenda_after, ask, ask_of, called, close, enter, fault_of_moment, is_alive, is_among, is_opening, is_spontaneous, letters_of, living_from, next_id, put_state, reports, retired, rows_of, scheduled, state_of, states_after, what_comes_next}
+use Rattle.sim_model.specs.Moment.{actor_cmp, agenda_after, ask, ask_of, called, close, enter, fault_of_moment, is_alive, is_among}
+use Rattle.sim_model.specs.Moment.{is_opening, is_spontaneous, letters_of, living_from, next_id, put_state, reports, retired, rows_of}
+use Rattle.sim_model.specs.Moment.{scheduled, state_of, states_after, what_comes_next}
 use Rattle.sim_model.specs.Run.{follow, go_on, judge, opening_world, opening, run_after, run_from, step}
 use Rattle.sim_model.specs.SetupParts.{SetupParts}
 use Rattle.sim_model.specs.Setups.{Ascend, IsSetup, parameters_of}
@@ -42,8 +45,13 @@ use Rattle.sim_model.proofs.Standing.{all_living, alive_append, alive_next, no_l
 
 -- ---- who is scheduled
 
-living_insert : {A : Type 0} (states : List (Option A)) (ids : List ActorId) (id : ActorId) → is_alive states id ≡ true → AreLiving states ids → AreLiving states (insert_key actor_cmp ids id)
-living_insert states ids id lives h = record { ascend = ascend_insert id ids h.ascend; live = All-insert_key actor_cmp id (λ id. is_alive states id ≡ true) ids h.live lives }
+living_insert : {A : Type 0} (states : List (Option A)) (ids : List ActorId) (id : ActorId) → is_alive states id ≡ true
+    → AreLiving states ids → AreLiving states (insert_key actor_cmp ids id)
+living_insert states ids id lives h = record {
+  ascend = ascend_insert id ids h.ascend;
+  live = All-insert_key actor_cmp id
+      (λ id. is_alive states id ≡ true) ids h.live lives;
+}
 
 living_ids : {A : Type 0} (states : List (Option A)) (more ids : List ActorId) → All (λ id. is_alive states id ≡ true) more → AreLiving states ids
     → AreLiving states (fold (λ done id. insert_key actor_cmp done id) ids more)
@@ -53,7 +61,8 @@ living_ids states (id ∷ more) ids live h =
     (living_insert states ids id (All-head (λ id. is_alive states id ≡ true) id more live) h)
 
 -- those of one tick ascend
-due_below : (tick : ℕ) (d : Due) (ds : List Due) → d.tick ≡ tick → IsBelow d ds → All (λ x. d.actor.0 < x.actor.0) (filter (λ x. nat_eq x.tick tick) ds)
+due_below : (tick : ℕ) (d : Due) (ds : List Due) → d.tick ≡ tick → IsBelow d ds
+    → All (λ x. d.actor.0 < x.actor.0) (filter (λ x. nat_eq x.tick tick) ds)
 due_below tick d [] e h = All-nil (λ x. d.actor.0 < x.actor.0)
 due_below tick d (x ∷ xs) e h = told (nat_eq x.tick tick) refl (due_below tick d xs e h.1) where
   told : (b : Bool) → nat_eq x.tick tick ≡ b → All (λ x. d.actor.0 < x.actor.0) (filter (λ x. nat_eq x.tick tick) xs)
@@ -66,7 +75,8 @@ due_ascend tick [] h = pairs_nil (λ d x. d.actor.0 < x.actor.0)
 due_ascend tick (d ∷ ds) h = told (nat_eq d.tick tick) refl (due_ascend tick ds h.1) where
   told : (b : Bool) → nat_eq d.tick tick ≡ b → AllPairs (λ d x. d.actor.0 < x.actor.0) (filter (λ d. nat_eq d.tick tick) ds)
       → AllPairs (λ d x. d.actor.0 < x.actor.0) (cond b (d ∷ filter (λ d. nat_eq d.tick tick) ds) (filter (λ d. nat_eq d.tick tick) ds))
-  told true t more = AllPairs-cons (λ d x. d.actor.0 < x.actor.0) d (filter (λ d. nat_eq d.tick tick) ds) (due_below tick d ds (grind (arith, nat_tests, t)) h.0) more
+  told true t more = AllPairs-cons (λ d x. d.actor.0 < x.actor.0) d (filter (λ d. nat_eq d.tick tick) ds)
+      (due_below tick d ds (grind (arith, nat_tests, t)) h.0) more
   told false t more = more
 
 living_due : {A : Type 0} (states : List (Option A)) (tick : ℕ) (agenda : List Due) → IsAgendaOf states agenda → AreLiving states (due_at tick agenda)
@@ -74,7 +84,8 @@ living_due {A} states tick agenda h =
     let now : List Due = filter (λ d. nat_eq d.tick tick) agenda in
     record {
       ascend = pairs_map (λ a b. a.0 < b.0) (λ d. d.actor) now (due_ascend tick agenda h.rises);
-      live = All-map (λ id. is_alive states id ≡ true) (λ d. d.actor) now (All-filter (λ d. nat_eq d.tick tick) (λ d. is_alive states d.actor ≡ true) agenda h.live);
+      live = All-map (λ id. is_alive states id ≡ true) (λ d. d.actor) now
+          (All-filter (λ d. nat_eq d.tick tick) (λ d. is_alive states d.actor ≡ true) agenda h.live);
     }
 
 scheduled_living : {A : Type 0} (m : Meaning A) (w : WorldState A) (at : Moment) → IsWhole m w → AreLiving w.states (scheduled w at)
@@ -91,8 +102,13 @@ scheduled_living {A} m w at h = told (is_opening at) (is_spontaneous at) where
 
 -- ---- agendas
 
-agenda_filter : {A : Type 0} (states : List (Option A)) (p : Due → Bool) (agenda : List Due) → IsAgendaOf states agenda → IsAgendaOf states (filter p agenda)
-agenda_filter states p agenda h = record { rises = rises_filter p agenda h.rises; live = All-filter p (λ d. is_alive states d.actor ≡ true) agenda h.live }
+agenda_filter : {A : Type 0} (states : List (Option A)) (p : Due → Bool) (agenda : List Due) → IsAgendaOf states agenda
+    → IsAgendaOf states (filter p agenda)
+agenda_filter states p agenda h = record {
+  rises = rises_filter p agenda h.rises;
+  live = All-filter p
+      (λ d. is_alive states d.actor ≡ true) agenda h.live;
+}
 
 all_add : (P : Due → Type 0) (d : Due) (ds : List Due) → P d → All P ds → All P (add_due d ds)
 all_add P d [] p h = All-cons P d [] p h
@@ -102,14 +118,22 @@ all_add P d (x ∷ xs) p h = told (comes_before d x) (comes_before x d) (all_add
   told false true more = All-cons P x (add_due d xs) (All-head P x xs h) more
   told false false more = h
 
-agenda_add : {A : Type 0} (states : List (Option A)) (d : Due) (agenda : List Due) → is_alive states d.actor ≡ true → IsAgendaOf states agenda → IsAgendaOf states (add_due d agenda)
-agenda_add states d agenda lives h = record { rises = rises_add d agenda h.rises; live = all_add (λ d. is_alive states d.actor ≡ true) d agenda lives h.live }
+agenda_add : {A : Type 0} (states : List (Option A)) (d : Due) (agenda : List Due) → is_alive states d.actor ≡ true
+    → IsAgendaOf states agenda → IsAgendaOf states (add_due d agenda)
+agenda_add states d agenda lives h = record {
+  rises = rises_add d agenda h.rises;
+  live = all_add
+      (λ d. is_alive states d.actor ≡ true) d agenda lives h.live;
+}
 
-agenda_ask : {A : Type 0} (states : List (Option A)) (id : ActorId) (ticks : List ℕ) (agenda : List Due) → is_alive states id ≡ true → IsAgendaOf states agenda → IsAgendaOf states (ask id agenda ticks)
+agenda_ask : {A : Type 0} (states : List (Option A)) (id : ActorId) (ticks : List ℕ) (agenda : List Due) → is_alive states id ≡ true
+    → IsAgendaOf states agenda → IsAgendaOf states (ask id agenda ticks)
 agenda_ask states id [] agenda lives h = h
-agenda_ask states id (t ∷ ticks) agenda lives h = agenda_ask states id ticks _ lives (agenda_add states (record { tick = t; actor = id }) agenda lives h)
+agenda_ask states id (t ∷ ticks) agenda lives h = agenda_ask states id ticks _ lives
+    (agenda_add states (record { tick = t; actor = id }) agenda lives h)
 
-agenda_asks : {A : Type 0} (states : List (Option A)) (rs : List (Report A)) (agenda : List Due) → All (λ r. is_alive states r.id ≡ true) rs → IsAgendaOf states agenda
+agenda_asks : {A : Type 0} (states : List (Option A)) (rs : List (Report A)) (agenda : List Due) → All (λ r. is_alive states r.id ≡ true) rs
+    → IsAgendaOf states agenda
     → IsAgendaOf states (fold ask_of agenda rs)
 agenda_asks states [] agenda live h = h
 agenda_asks states (r ∷ rs) agenda live h =
@@ -120,7 +144,8 @@ not_true : (b : Bool) → not b ≡ true → b ≡ false
 not_true true e = cc
 not_true false e = refl
 
-agenda_closed : {A : Type 0} (states : List (Option A)) (rs : List (Report A)) (born : List (Newborn A)) (agenda : List Due) → All (λ r. is_alive states r.id ≡ true) rs
+agenda_closed : {A : Type 0} (states : List (Option A)) (rs : List (Report A)) (born : List (Newborn A)) (agenda : List Due)
+    → All (λ r. is_alive states r.id ≡ true) rs
     → IsAgendaOf states agenda → IsAgendaOf (states_after states rs born) (agenda_after agenda rs)
 agenda_closed {A} states rs born agenda live h = record { rises = left.rises; live = alive } where
   stay : Due → Bool
@@ -133,7 +158,8 @@ agenda_closed {A} states rs born agenda live h = record { rises = left.rises; li
   left = agenda_filter states stay asked (agenda_asks states rs agenda live h)
 
   alive : All (λ d. is_alive (states_after states rs born) d.actor ≡ true) (filter stay asked)
-  alive k d lt = alive_append (fold put_state states rs) (map (λ b. Some b.state) born) _ (puts_keep rs states _ (left.live k d lt) (not_true _ (filter_passes stay asked k d lt)))
+  alive k d lt = alive_append (fold put_state states rs) (map (λ b. Some b.state) born) _
+      (puts_keep rs states _ (left.live k d lt) (not_true _ (filter_passes stay asked k d lt)))
 
 -- ---- numbers
 
@@ -144,14 +170,18 @@ numbered_append (x ∷ xs) ys n k h e g = (h.0, numbered_append xs ys (n + 1) k 
 numbered_above : (ids : List ActorId) (n : ℕ) → Numbered n ids → All (λ id. n ≤ id.0) ids
 numbered_above [] n h = All-nil (λ id. n ≤ id.0)
 numbered_above (id ∷ ids) n h =
-    All-cons (λ id. n ≤ id.0) id ids (omega (arith, h.0)) (All-weaker (λ id. n + 1 ≤ id.0) (λ id. n ≤ id.0) (λ id le. omega (arith, le)) ids (numbered_above ids (n + 1) h.1))
+    All-cons (λ id. n ≤ id.0) id ids (omega (arith, h.0))
+    (All-weaker (λ id. n + 1 ≤ id.0) (λ id. n ≤ id.0) (λ id le. omega (arith, le)) ids (numbered_above ids (n + 1) h.1))
 
 numbered_ascend : (ids : List ActorId) (n : ℕ) → Numbered n ids → Ascend ids
 numbered_ascend [] n h = pairs_nil (λ a b. a.0 < b.0)
 numbered_ascend (id ∷ ids) n h =
-    AllPairs-cons (λ a b. a.0 < b.0) id ids (All-weaker (λ k. n + 1 ≤ k.0) (λ k. id.0 < k.0) (λ k le. omega (arith, le, h.0)) ids (numbered_above ids (n + 1) h.1)) (numbered_ascend ids (n + 1) h.1)
+    AllPairs-cons (λ a b. a.0 < b.0) id ids
+    (All-weaker (λ k. n + 1 ≤ k.0) (λ k. id.0 < k.0) (λ k le. omega (arith, le, h.0)) ids (numbered_above ids (n + 1) h.1))
+    (numbered_ascend ids (n + 1) h.1)
 
-born_numbered : {A : Type 0} (m : Meaning A) (creator : ActorId) (index id : ℕ) (states : List A) → Numbered id (map (λ b. b.id) (births_from m creator index id states))
+born_numbered : {A : Type 0} (m : Meaning A) (creator : ActorId) (index id : ℕ) (states : List A)
+    → Numbered id (map (λ b. b.id) (births_from m creator index id states))
 born_numbered m creator index id [] = tt
 born_numbered m creator index id (s ∷ ss) = (refl, born_numbered m creator (index + 1) (id + 1) ss)
 
@@ -160,9 +190,11 @@ births_numbered m [] next = tt
 births_numbered {A} m (r ∷ rs) next =
     let first : List (Newborn A) = births_from m r.id 0 next r.outcome.births in
     let rest : List (Newborn A) = births_of_moment m (next + length r.outcome.births) rs in
-    let count : length (map {A = Newborn A} (λ b. b.id) first) ≡ length r.outcome.births = length-map {A = Newborn A} first (λ b. b.id) ∙ births_from-length m r.id 0 next r.outcome.births in
+    let count : length (map {A = Newborn A} (λ b. b.id) first) ≡ length r.outcome.births = length-map {A = Newborn A} first (λ b. b.id)
+    ∙ births_from-length m r.id 0 next r.outcome.births in
     rw (map-append {A = Newborn A} (λ b. b.id) first rest)
-    (numbered_append (map {A = Newborn A} (λ b. b.id) first) (map {A = Newborn A} (λ b. b.id) rest) next (next + length r.outcome.births) (born_numbered m r.id 0 next r.outcome.births) (omega (arith, count))
+    (numbered_append (map {A = Newborn A} (λ b. b.id) first) (map {A = Newborn A} (λ b. b.id) rest) next (next + length r.outcome.births)
+    (born_numbered m r.id 0 next r.outcome.births) (omega (arith, count))
     (births_numbered m rs (next + length r.outcome.births)))
 
 -- ---- the newborn
@@ -174,7 +206,8 @@ born_alive {A} states (b ∷ born) n e h =
     let rest : List (Option A) = map (λ b. Some b.state) born in
     let longer : n + 1 ≡ length (states ++ Some b.state ∷ []) + 1 = omega (arith, e, length-append states (Some b.state ∷ [])) in
     All-cons (λ c. is_alive (states ++ Some b.state ∷ rest) c.id ≡ true) b born (alive_next states rest b.id b.state (h.0 ∙ e))
-    (subst (λ all. All (λ c. is_alive all c.id ≡ true) born) (append_assoc states (Some b.state ∷ []) rest) (born_alive (states ++ Some b.state ∷ []) born (n + 1) longer h.1))
+    (subst (λ all. All (λ c. is_alive all c.id ≡ true) born) (append_assoc states (Some b.state ∷ []) rest)
+    (born_alive (states ++ Some b.state ∷ []) born (n + 1) longer h.1))
 
 newborn_living : {A : Type 0} (m : Meaning A) (states : List (Option A)) (rs : List (Report A)) (next : ℕ) → next ≡ length states + 1
     → AreLiving (states_after states rs (births_of_moment m next rs)) (map (λ b. b.id) (births_of_moment m next rs))
@@ -184,12 +217,14 @@ newborn_living {A} m states rs next e =
     let numbered : Numbered next (map {A = Newborn A} (λ b. b.id) born) = births_numbered m rs next in
     record {
       ascend = numbered_ascend (map {A = Newborn A} (λ b. b.id) born) next numbered;
-      live = All-map (λ id. is_alive (states_after states rs born) id ≡ true) (λ b. b.id) born (born_alive (fold put_state states rs) born next first numbered);
+      live = All-map (λ id. is_alive (states_after states rs born) id ≡ true) (λ b. b.id) born
+          (born_alive (fold put_state states rs) born next first numbered);
     }
 
 -- ---- the cast
 
-zip_append : {X Y : Type 0} (R : X → Y → Type 0) (xs : List X) (ys : List Y) (zs : List X) (ws : List Y) → AllZip R xs ys → AllZip R zs ws → AllZip R (xs ++ zs) (ys ++ ws)
+zip_append : {X Y : Type 0} (R : X → Y → Type 0) (xs : List X) (ys : List Y) (zs : List X) (ws : List Y) → AllZip R xs ys → AllZip R zs ws
+    → AllZip R (xs ++ zs) (ys ++ ws)
 zip_append R [] [] zs ws h k = k
 zip_append R [] (y ∷ ys) zs ws h k = absurd h
 zip_append R (x ∷ xs) [] zs ws h k = absurd h
@@ -209,10 +244,12 @@ member_ids : {A : Type 0} (m : Meaning A) (born : List (Newborn A)) → map (λ 
 member_ids m [] = refl
 member_ids m (b ∷ born) = ap (λ ids. b.id ∷ ids) (member_ids m born)
 
-cast_of : {A : Type 0} (m : Meaning A) (states : List (Option A)) (cast : List Member) → Numbered 1 (map (λ c. c.id) cast) → AllZip (Fits m) cast states → IsCastOf m states cast
+cast_of : {A : Type 0} (m : Meaning A) (states : List (Option A)) (cast : List Member) → Numbered 1 (map (λ c. c.id) cast)
+    → AllZip (Fits m) cast states → IsCastOf m states cast
 cast_of m states cast numbered fits = record { count = zip_length (Fits m) cast states fits; numbered = numbered; fits = fits }
 
-cast_closed : {A : Type 0} (m : Meaning A) (states : List (Option A)) (cast : List Member) (rs : List (Report A)) (next : ℕ) → next ≡ length states + 1 → All (FitsReport m cast) rs → IsCastOf m states cast
+cast_closed : {A : Type 0} (m : Meaning A) (states : List (Option A)) (cast : List Member) (rs : List (Report A)) (next : ℕ)
+    → next ≡ length states + 1 → All (FitsReport m cast) rs → IsCastOf m states cast
     → IsCastOf m (states_after states rs (births_of_moment m next rs)) (cast ++ map (member_born m) (births_of_moment m next rs))
 cast_closed {A} m states cast rs next e fit h =
     let born : List (Newborn A) = births_of_moment m next rs in
@@ -220,9 +257,11 @@ cast_closed {A} m states cast rs next e fit h =
     let count : length (map {A = Member} (λ c. c.id) cast) ≡ length cast = length-map {A = Member} cast (λ c. c.id) in
     let later : Numbered next (map {A = Member} (λ c. c.id) more) = rw (member_ids m born) (births_numbered m rs next) in
     let all : Numbered 1 (map {A = Member} (λ c. c.id) cast ++ map {A = Member} (λ c. c.id) more) =
-    numbered_append (map {A = Member} (λ c. c.id) cast) (map {A = Member} (λ c. c.id) more) 1 next h.numbered (omega (arith, e, count, h.count)) later in
+    numbered_append (map {A = Member} (λ c. c.id) cast) (map {A = Member} (λ c. c.id) more) 1 next h.numbered
+    (omega (arith, e, count, h.count)) later in
     cast_of m (states_after states rs born) (cast ++ more) (rw (map-append {A = Member} (λ c. c.id) cast more) all)
-    (zip_append (Fits m) cast (fold put_state states rs) more (map (λ b. Some b.state) born) (fits_puts m cast rs states h.fits fit) (born_fit m born))
+    (zip_append (Fits m) cast (fold put_state states rs) more (map (λ b. Some b.state) born) (fits_puts m cast rs states h.fits fit)
+    (born_fit m born))
 
 numbered_get : (cast : List Member) (n i : ℕ) (c : Member) → Numbered n (map (λ c. c.id) cast) → slice_get cast i ≡ Some c → c.id.0 ≡ n + i
 numbered_get [] n i c h e = cc
@@ -237,7 +276,8 @@ pub record EntryOf {A : Type 0} (m : Meaning A) (cast : List Member) (id : Actor
   pub kind : entry.kind ≡ m.kind a
   pub probes : entry.probes ≡ m.probes a
 
-pub living_entry : {A : Type 0} (m : Meaning A) (states : List (Option A)) (cast : List Member) (id : ActorId) (a : A) → IsCastOf m states cast → state_of states id ≡ Some a → EntryOf m cast id a
+pub living_entry : {A : Type 0} (m : Meaning A) (states : List (Option A)) (cast : List Member) (id : ActorId) (a : A)
+    → IsCastOf m states cast → state_of states id ≡ Some a → EntryOf m cast id a
 living_entry {A} m states cast id a h e =
     let s = stands states id a e in
     let found = zip_get m cast states (id.0 - 1) (Some a) h.fits s.at in
@@ -248,13 +288,22 @@ living_entry {A} m states cast id a h e =
 
 pub enter_whole : {A : Type 0} (m : Meaning A) (w : WorldState A) (at : Moment) → IsWhole m w → IsWhole m (enter w at)
 enter_whole {A} m w at h =
-    record { parameters = h.parameters; scheduled = scheduled_living m w at h; agenda = told (is_spontaneous at); letters = h.letters; newborn = h.newborn; cast = h.cast } where
+    record {
+      parameters = h.parameters;
+      scheduled = scheduled_living m w at h;
+      agenda = told
+          (is_spontaneous at);
+      letters = h.letters;
+      newborn = h.newborn;
+      cast = h.cast;
+    } where
       told : (b : Bool) → IsAgendaOf w.states (cond b (without_tick at.tick w.agenda) w.agenda)
       told true = agenda_filter w.states (λ d. not (nat_eq d.tick at.tick)) w.agenda h.agenda
       told false = h.agenda
 
 -- nobody is urgent that wasn't there before
-parameters_closed : {A : Type 0} (p : Parameters) (states more : List (Option A)) → length states ≤ length more → AreParameters states p → length more ≤ p.max_actors → AreParameters more p
+parameters_closed : {A : Type 0} (p : Parameters) (states more : List (Option A)) → length states ≤ length more → AreParameters states p
+    → length more ≤ p.max_actors → AreParameters more p
 parameters_closed p states more le h fits = record {
   seed = h.seed;
   last_tick = h.last_tick;
@@ -263,10 +312,12 @@ parameters_closed p states more le h fits = record {
   max_actors = h.max_actors;
   count = fits;
   urgent = h.urgent;
-  known = All-weaker (λ id. (1 ≤ id.0) × (id.0 ≤ length states)) (λ id. (1 ≤ id.0) × (id.0 ≤ length more)) (λ id k. (k.0, omega (arith, k.1, le))) p.urgent h.known;
+  known = All-weaker (λ id. (1 ≤ id.0) × (id.0 ≤ length states)) (λ id. (1 ≤ id.0) × (id.0 ≤ length more))
+      (λ id k. (k.0, omega (arith, k.1, le))) p.urgent h.known;
 }
 
-pub close_whole : {A : Type 0} (m : Meaning A) (w : WorldState A) (rs : List (Report A)) → AreReports m w.states w.cast rs → IsWhole m w → length (close m w rs).states ≤ w.parameters.max_actors
+pub close_whole : {A : Type 0} (m : Meaning A) (w : WorldState A) (rs : List (Report A)) → AreReports m w.states w.cast rs → IsWhole m w
+    → length (close m w rs).states ≤ w.parameters.max_actors
     → IsWhole m (close m w rs)
 close_whole {A} m w rs acted h fits =
     let born : List (Newborn A) = births_of_moment m (next_id w) rs in
@@ -290,7 +341,8 @@ close_whole {A} m w rs acted h fits =
 pub closed_whole : {A : Type 0} (m : Meaning A) → IsLawful m → (w : WorldState A) (at : Moment) → IsWhole m w
     → fault_of_moment m w at (reports m w at) ≡ None → IsWhole m (close m w (reports m w at))
 closed_whole m law w at h none =
-    close_whole m w (reports m w at) (are_reports m law w at h.scheduled h.cast.fits) h (closed_count m w.parameters.max_actors at w (reports m w at) none h.parameters.count)
+    close_whole m w (reports m w at) (are_reports m law w at h.scheduled h.cast.fits) h
+    (closed_count m w.parameters.max_actors at w (reports m w at) none h.parameters.count)
 
 -- ---- the opening
 
@@ -298,7 +350,8 @@ start_numbered : {A : Type 0} (m : Meaning A) (starts : List (Start A)) (n : ℕ
 start_numbered m [] n = tt
 start_numbered m (s ∷ starts) n = (refl, start_numbered m starts (n + 1))
 
-start_fits : {A : Type 0} (m : Meaning A) (starts : List (Start A)) (n : ℕ) → AllZip (Fits m) (members_from m n starts) (map (λ a. Some a.state) starts)
+start_fits : {A : Type 0} (m : Meaning A) (starts : List (Start A)) (n : ℕ)
+    → AllZip (Fits m) (members_from m n starts) (map (λ a. Some a.state) starts)
 start_fits m [] n = tt
 start_fits m (s ∷ starts) n = ((refl, refl), start_fits m starts (n + 1))
 
@@ -335,20 +388,23 @@ going_whole m u h =
     let entered = enter_whole m u.world u.next h in
     (h, entered, ids_reported m (enter u.world u.next) u.next (scheduled u.world u.next) entered.scheduled.live)
 
-follow_whole : {A : Type 0} (m : Meaning A) (at : Moment) (w : WorldState A) (rows : List Row) (next : Next) → IsWhole m w → IsWholeAt m (follow at w rows next)
+follow_whole : {A : Type 0} (m : Meaning A) (at : Moment) (w : WorldState A) (rows : List Row) (next : Next) → IsWhole m w
+    → IsWholeAt m (follow at w rows next)
 follow_whole m at w rows (Enters next) h = going_whole m (record { last = Some at; next = next; world = w; rows = rows }) h
 follow_whole m at w rows (Ends ending) h = h
 
 judge_whole : {A : Type 0} (m : Meaning A) (at : Moment) (w : WorldState A) (rows : List Row) (rs : List (Report A)) (o : Option Fault) → IsWhole m w
     → (o ≡ None → IsWhole m (close m w rs)) → IsWholeAt m (judge m at w rows rs o)
 judge_whole m at w rows rs (Some f) h closes = h
-judge_whole m at w rows rs None h closes = follow_whole m at (close m w rs) (rows ++ flat_map (rows_of at) rs) (what_comes_next (close m w rs) at) (closes refl)
+judge_whole m at w rows rs None h closes = follow_whole m at (close m w rs) (rows ++ flat_map (rows_of at) rs)
+    (what_comes_next (close m w rs) at) (closes refl)
 
 pub step_whole : {A : Type 0} (m : Meaning A) → IsLawful m → (u : Underway A) → IsWhole m (enter u.world u.next) → IsWholeAt m (step m u)
 unfolding step
 step_whole m law u h =
     let entered = enter u.world u.next in
-    judge_whole m u.next entered u.rows (reports m entered u.next) (fault_of_moment m entered u.next (reports m entered u.next)) h (closed_whole m law entered u.next h)
+    judge_whole m u.next entered u.rows (reports m entered u.next) (fault_of_moment m entered u.next (reports m entered u.next)) h
+    (closed_whole m law entered u.next h)
 
 pub whole_next : {A : Type 0} (m : Meaning A) → IsLawful m → (u next : Underway A) → IsWhole m u.world → step m u ≡ Going next → IsWhole m next.world
 whole_next m law u next h e = (subst (λ p. IsWholeAt m p) e (step_whole m law u (enter_whole m u.world u.next h))).0

@@ -17,7 +17,8 @@ item_fits rs i next total d lt h =
     let split = rw (drop-cons rs i d lt) at h in
     omega (arith, next_after_grows (drop (suc i) rs) (next + length (get_or rs i d).outcome.births), split)
 
-pub births_from-length : {A : Type 0} (m : Meaning A) (creator : ActorId) (index id : ℕ) (states : List A) → length (births_from m creator index id states) ≡ length states
+pub births_from-length : {A : Type 0} (m : Meaning A) (creator : ActorId) (index id : ℕ) (states : List A)
+    → length (births_from m creator index id states) ≡ length states
 births_from-length m creator index id [] = refl
 births_from-length m creator index id (s ∷ ss) = ap (λ n. suc n) (births_from-length m creator (index + 1) (id + 1) ss)
 
@@ -32,5 +33,6 @@ births-length m (r ∷ rs) next =
     )
 
 -- whether a number is past the max, by how much room there is
-pub past_room : {A : Type 0} (max next : ℕ) (r : Report A) → next ≤ max + 1 → bears_past max next (length r.outcome.births) ≡ nat_lt (max + 1 - next) (length r.outcome.births)
+pub past_room : {A : Type 0} (max next : ℕ) (r : Report A) → next ≤ max + 1
+    → bears_past max next (length r.outcome.births) ≡ nat_lt (max + 1 - next) (length r.outcome.births)
 past_room max next r le = grind (arith, nat_tests)

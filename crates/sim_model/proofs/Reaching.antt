@@ -21,7 +21,8 @@ pub start_reached : {A : Type 0} (m : Meaning A) (s : SetupParts A) → IsSetup 
 unfolding run_from
 start_reached m s setup = record { moments = 0; fine = fine_start m s setup; whole = opening_whole m s setup; there = refl }
 
-pub reached_next : {A : Type 0} (m : Meaning A) → IsLawful m → (s : SetupParts A) (u next : Underway A) → Reached m s u → step m u ≡ Going next → Reached m s next
+pub reached_next : {A : Type 0} (m : Meaning A) → IsLawful m → (s : SetupParts A) (u next : Underway A) → Reached m s u
+    → step m u ≡ Going next → Reached m s next
 reached_next m law s u next r e = record {
   moments = suc r.moments;
   fine = fine_next m s u next r.moments r.fine e;
@@ -29,5 +30,6 @@ reached_next m law s u next r e = record {
   there = run_from-at m (Going (opening m s)) u r.moments r.there ∙ e;
 }
 
-pub reached_end : {A : Type 0} (m : Meaning A) (s : SetupParts A) (u : Underway A) (e : Ended A) → Reached m s u → step m u ≡ Over e → IsRun m s (results_of e)
+pub reached_end : {A : Type 0} (m : Meaning A) (s : SetupParts A) (u : Underway A) (e : Ended A) → Reached m s u → step m u ≡ Over e
+    → IsRun m s (results_of e)
 reached_end m s u e r over = fine_end m s u e r.moments r.fine r.there over

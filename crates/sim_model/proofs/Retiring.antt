@@ -9,4 +9,5 @@ use Rattle.sim_model.proofs.Ascending.{pairs_map}
 
 pub retired_ascend : {A : Type 0} (rs : List (Report A)) → AllPairs (λ r q. r.id.0 < q.id.0) rs → Ascend (retired rs)
 retired_ascend rs h =
-    pairs_map (λ a b. a.0 < b.0) (λ r. r.id) (filter (λ r. r.outcome.retire) rs) (AllPairs-filter (λ r q. r.id.0 < q.id.0) (λ r. r.outcome.retire) rs h)
+    pairs_map (λ a b. a.0 < b.0) (λ r. r.id) (filter (λ r. r.outcome.retire) rs)
+    (AllPairs-filter (λ r q. r.id.0 < q.id.0) (λ r. r.outcome.retire) rs h)

@@ -1,5 +1,6 @@
 -- Agendas in which no tick is below the one before it.
-use Rattle.std.proofs.Common.{◌≡◌, ℕ, suc, ◌<◌, ◌≤◌, Bool, true, false, not, ◌||◌, cond, nat_eq, nat_le, List, [], ◌∷◌, length, Option, Some, None, arith, refl}
+use Rattle.std.proofs.Common.{◌≡◌, ℕ, suc, ◌<◌, ◌≤◌, Bool, true, false, not, ◌||◌, cond, nat_eq, nat_le, List, [], ◌∷◌, length, Option}
+use Rattle.std.proofs.Common.{Some, None, arith, refl}
 use Rattle.std.specs.List.{filter}
 use Rattle.std.proofs.lemmas.Bool.Decides.{nat_tests}
 use Rattle.sim_base.specs.declared.ids.ActorId.{ActorId}
@@ -25,7 +26,8 @@ filter_rises p m (d ∷ ds) h =
 pub without_rises : (t : ℕ) (ds : List Due) → RisesFrom t ds → RisesFrom (suc t) (without_tick t ds)
 without_rises t [] h = tt
 without_rises t (d ∷ ds) h = kept (nat_eq d.tick t) refl (λ g. without_rises t ds g) where
-  kept : (b : Bool) → nat_eq d.tick t ≡ b → (RisesFrom t ds → RisesFrom (suc t) (without_tick t ds)) → RisesFrom (suc t) (cond (not b) (d ∷ without_tick t ds) (without_tick t ds))
+  kept : (b : Bool) → nat_eq d.tick t ≡ b → (RisesFrom t ds → RisesFrom (suc t) (without_tick t ds))
+      → RisesFrom (suc t) (cond (not b) (d ∷ without_tick t ds) (without_tick t ds))
   kept true e more = let same : d.tick ≡ t = grind (arith, nat_tests) in more (rw same at h.1)
   kept false e more = let later : suc t ≤ d.tick = grind (arith, nat_tests, h.0) in (later, filter_rises _ d.tick ds h.1)
 

@@ -20,9 +20,11 @@ itself ids id = let same : nat_eq id.0 id.0 ≡ true = grind (arith, nat_tests) 
 passed_over : (ids : List ActorId) (x id : ActorId) → Ascend (x ∷ ids) → id.0 < x.0 → is_among (x ∷ ids) id ≡ false
 passed_over ids x id h lt =
     let apart : nat_eq x.0 id.0 ≡ false = grind (arith, nat_tests, lt) in
-    rw apart (not_below ids id (All-weaker (λ k. x.0 < k.0) (λ k. id.0 < k.0) (λ k more. omega (arith, lt, more)) ids (pairs_head (λ a b. a.0 < b.0) x ids h)))
+    rw apart (not_below ids id
+    (All-weaker (λ k. x.0 < k.0) (λ k. id.0 < k.0) (λ k more. omega (arith, lt, more)) ids (pairs_head (λ a b. a.0 < b.0) x ids h)))
 
-first_same : (x y : ActorId) (xs ys : List ActorId) → Ascend (x ∷ xs) → Ascend (y ∷ ys) → ((id : ActorId) → is_among (x ∷ xs) id ≡ is_among (y ∷ ys) id) → x.0 ≡ y.0
+first_same : (x y : ActorId) (xs ys : List ActorId) → Ascend (x ∷ xs) → Ascend (y ∷ ys)
+    → ((id : ActorId) → is_among (x ∷ xs) id ≡ is_among (y ∷ ys) id) → x.0 ≡ y.0
 first_same x y xs ys h k same = told (nat_lt x.0 y.0) (nat_lt y.0 x.0) refl refl where
   told : (b c : Bool) → nat_lt x.0 y.0 ≡ b → nat_lt y.0 x.0 ≡ c → x.0 ≡ y.0
   told true c e f =
@@ -35,7 +37,8 @@ first_same x y xs ys h k same = told (nat_lt x.0 y.0) (nat_lt y.0 x.0) refl refl
       cc
   told false false e f = grind (arith, nat_tests, e, f)
 
-rest_same : (x : ActorId) (xs ys : List ActorId) → All (λ k. x.0 < k.0) xs → All (λ k. x.0 < k.0) ys → ((id : ActorId) → is_among (x ∷ xs) id ≡ is_among (x ∷ ys) id)
+rest_same : (x : ActorId) (xs ys : List ActorId) → All (λ k. x.0 < k.0) xs → All (λ k. x.0 < k.0) ys
+    → ((id : ActorId) → is_among (x ∷ xs) id ≡ is_among (x ∷ ys) id)
     → (id : ActorId) → is_among xs id ≡ is_among ys id
 rest_same x xs ys h k same id = told (nat_eq x.0 id.0) refl (same id) where
   told : (b : Bool) → nat_eq x.0 id.0 ≡ b → (b || is_among xs id) ≡ (b || is_among ys id) → is_among xs id ≡ is_among ys id

@@ -1,5 +1,7 @@
 -- Who is alive, through the changes of a moment.
-use Rattle.std.proofs.Common.{◌≡◌, ◌≢◌, ℕ, zero, suc, ◌+◌, ◌-◌, ◌<◌, ◌≤◌, Bool, true, false, ◌||◌, cond, nat_eq, List, [], ◌∷◌, ◌++◌, length, map, slice_get, slice_set, Option, Some, None, is_some, arith, append_assoc, length-append, refl, ap, sym, ◌∙◌, subst}
+use Rattle.std.proofs.Common.{◌≡◌, ◌≢◌, ℕ, zero, suc, ◌+◌, ◌-◌, ◌<◌, ◌≤◌, Bool, true, false, ◌||◌, cond, nat_eq, List, [], ◌∷◌, ◌++◌}
+use Rattle.std.proofs.Common.{length, map, slice_get, slice_set, Option, Some, None, is_some, arith, append_assoc, length-append, refl, ap}
+use Rattle.std.proofs.Common.{sym, ◌∙◌, subst}
 use Rattle.std.specs.List.{All, filter, fold}
 use Rattle.std.specs.Option.{option_flatten}
 use Rattle.std.proofs.lemmas.Bool.Decides.{nat_tests}
@@ -44,7 +46,8 @@ pub record Stands {A : Type 0} (states : List (Option A)) (id : ActorId) (a : A)
 
 pub stands : {A : Type 0} (states : List (Option A)) (id : ActorId) (a : A) → state_of states id ≡ Some a → Stands states id a
 stands {A} states id a e = told (nat_eq id.0 0) (slice_get states (id.0 - 1)) refl refl e where
-  told : (b : Bool) (o : Option (Option A)) → nat_eq id.0 0 ≡ b → slice_get states (id.0 - 1) ≡ o → cond b None (option_flatten o) ≡ Some a → Stands states id a
+  told : (b : Bool) (o : Option (Option A)) → nat_eq id.0 0 ≡ b → slice_get states (id.0 - 1) ≡ o → cond b None (option_flatten o) ≡ Some a
+      → Stands states id a
   told true o t g h = cc
   told false None t g h = cc
   told false (Some s) t g h = record { numbered = λ z. grind (arith, nat_tests, t, z); at = g ∙ ap (λ s. Some s) h }
@@ -70,13 +73,16 @@ pub alive_append : {A : Type 0} (states more : List (Option A)) (id : ActorId) �
 alive_append {A} states more id h =
     let a = alive_state states id h in
     let s = stands states id a.0 a.1 in
-    state_alive (states ++ more) id a.0 (state_from (states ++ more) id a.0 (record { numbered = s.numbered; at = get_append states more (id.0 - 1) (Some a.0) s.at }))
+    state_alive (states ++ more) id a.0
+    (state_from (states ++ more) id a.0 (record { numbered = s.numbered; at = get_append states more (id.0 - 1) (Some a.0) s.at }))
 
 -- the one whose state comes next
-pub alive_next : {A : Type 0} (states more : List (Option A)) (id : ActorId) (a : A) → id.0 ≡ length states + 1 → is_alive (states ++ Some a ∷ more) id ≡ true
+pub alive_next : {A : Type 0} (states more : List (Option A)) (id : ActorId) (a : A) → id.0 ≡ length states + 1
+    → is_alive (states ++ Some a ∷ more) id ≡ true
 alive_next {A} states more id a e =
     let place : id.0 - 1 ≡ length states = omega (arith, e) in
-    state_alive (states ++ Some a ∷ more) id a (state_from (states ++ Some a ∷ more) id a (record { numbered = λ z. omega (arith, e, z); at = rw place (get_end states (Some a) more) }))
+    state_alive (states ++ Some a ∷ more) id a
+    (state_from (states ++ Some a ∷ more) id a (record { numbered = λ z. omega (arith, e, z); at = rw place (get_end states (Some a) more) }))
 
 -- ---- those that act
 
@@ -93,14 +99,17 @@ put_keeps {A} states r id h goes = told (nat_eq r.id.0 0) refl where
   next : Option A
   next = cond r.outcome.retire None (Some r.outcome.state)
 
-  placed : (b c : Bool) → nat_eq r.id.0 0 ≡ false → nat_eq r.id.0 id.0 ≡ b → r.outcome.retire ≡ c → is_alive (slice_set states (r.id.0 - 1) (cond c None (Some r.outcome.state))) id ≡ true
+  placed : (b c : Bool) → nat_eq r.id.0 0 ≡ false → nat_eq r.id.0 id.0 ≡ b → r.outcome.retire ≡ c
+      → is_alive (slice_set states (r.id.0 - 1) (cond c None (Some r.outcome.state))) id ≡ true
   placed true true z e t = absurd (goes t (grind (arith, nat_tests, e)))
   placed true false z e t =
       let same : r.id.0 - 1 ≡ id.0 - 1 = grind (arith, nat_tests, e) in
-      state_alive _ id r.outcome.state (state_from _ id r.outcome.state (record { numbered = s.numbered; at = rw same (get_set_same states (id.0 - 1) (Some r.outcome.state) (Some a.0) s.at) }))
+      state_alive _ id r.outcome.state (state_from _ id r.outcome.state
+      (record { numbered = s.numbered; at = rw same (get_set_same states (id.0 - 1) (Some r.outcome.state) (Some a.0) s.at) }))
   placed false c z e t =
       let apart : (r.id.0 - 1) ≢ (id.0 - 1) = λ q. grind (arith, nat_tests, e, z, s.numbered, q) in
-      state_alive _ id a.0 (state_from _ id a.0 (record { numbered = s.numbered; at = get_set_other states (r.id.0 - 1) (id.0 - 1) (cond c None (Some r.outcome.state)) apart ∙ s.at }))
+      state_alive _ id a.0 (state_from _ id a.0
+      (record { numbered = s.numbered; at = get_set_other states (r.id.0 - 1) (id.0 - 1) (cond c None (Some r.outcome.state)) apart ∙ s.at }))
 
   told : (b : Bool) → nat_eq r.id.0 0 ≡ b → is_alive (cond b states (slice_set states (r.id.0 - 1) next)) id ≡ true
   told true e = h
@@ -115,7 +124,8 @@ pub puts_keep : {A : Type 0} (rs : List (Report A)) (states : List (Option A)) (
     → is_among (retired rs) id ≡ false → is_alive (fold put_state states rs) id ≡ true
 puts_keep [] states id h n = h
 puts_keep {A} (r ∷ rs) states id h n = told r.outcome.retire refl n (λ g k. puts_keep rs (put_state states r) id g k) where
-  told : (b : Bool) → r.outcome.retire ≡ b → is_among (map (λ r. r.id) (cond b (r ∷ filter (λ r. r.outcome.retire) rs) (filter (λ r. r.outcome.retire) rs))) id ≡ false
+  told : (b : Bool) → r.outcome.retire ≡ b
+      → is_among (map (λ r. r.id) (cond b (r ∷ filter (λ r. r.outcome.retire) rs) (filter (λ r. r.outcome.retire) rs))) id ≡ false
       → (is_alive (put_state states r) id ≡ true → is_among (retired rs) id ≡ false → is_alive (fold put_state (put_state states r) rs) id ≡ true)
       → is_alive (fold put_state (put_state states r) rs) id ≡ true
   told true e k more =
@@ -130,7 +140,8 @@ no_living states = record { ascend = pairs_nil (λ a b. a.0 < b.0); live = All-n
 
 living_above : {A : Type 0} (states : List (Option A)) (n : ℕ) → All (λ id. n ≤ id.0) (living_from n states)
 living_above [] n = All-nil (λ id. n ≤ id.0)
-living_above (None ∷ states) n = All-weaker (λ id. n + 1 ≤ id.0) (λ id. n ≤ id.0) (λ id h. omega (arith, h)) (living_from (n + 1) states) (living_above states (n + 1))
+living_above (None ∷ states) n = All-weaker (λ id. n + 1 ≤ id.0) (λ id. n ≤ id.0) (λ id h. omega (arith, h)) (living_from (n + 1) states)
+    (living_above states (n + 1))
 living_above (Some a ∷ states) n =
     All-cons (λ id. n ≤ id.0) (record { 0 = n }) (living_from (n + 1) states) (omega arith)
     (All-weaker (λ id. n + 1 ≤ id.0) (λ id. n ≤ id.0) (λ id h. omega (arith, h)) (living_from (n + 1) states) (living_above states (n + 1)))
@@ -140,17 +151,22 @@ living_ascend [] n = pairs_nil (λ a b. a.0 < b.0)
 living_ascend (None ∷ states) n = living_ascend states (n + 1)
 living_ascend (Some a ∷ states) n =
     AllPairs-cons (λ a b. a.0 < b.0) (record { 0 = n }) (living_from (n + 1) states)
-    (All-weaker (λ id. n + 1 ≤ id.0) (λ id. n < id.0) (λ id h. omega (arith, h)) (living_from (n + 1) states) (living_above states (n + 1))) (living_ascend states (n + 1))
+    (All-weaker (λ id. n + 1 ≤ id.0) (λ id. n < id.0) (λ id h. omega (arith, h)) (living_from (n + 1) states) (living_above states (n + 1)))
+    (living_ascend states (n + 1))
 
-living_alive : {A : Type 0} (before states : List (Option A)) (n : ℕ) → n ≡ length before + 1 → All (λ id. is_alive (before ++ states) id ≡ true) (living_from n states)
+living_alive : {A : Type 0} (before states : List (Option A)) (n : ℕ) → n ≡ length before + 1
+    → All (λ id. is_alive (before ++ states) id ≡ true) (living_from n states)
 living_alive before [] n e = All-nil (λ id. is_alive (before ++ []) id ≡ true)
 living_alive before (None ∷ states) n e =
     let longer : n + 1 ≡ length (before ++ None ∷ []) + 1 = omega (arith, e, length-append before (None ∷ [])) in
-    subst (λ all. All (λ id. is_alive all id ≡ true) (living_from (n + 1) states)) (append_assoc before (None ∷ []) states) (living_alive (before ++ None ∷ []) states (n + 1) longer)
+    subst (λ all. All (λ id. is_alive all id ≡ true) (living_from (n + 1) states)) (append_assoc before (None ∷ []) states)
+    (living_alive (before ++ None ∷ []) states (n + 1) longer)
 living_alive before (Some a ∷ states) n e =
     let longer : n + 1 ≡ length (before ++ Some a ∷ []) + 1 = omega (arith, e, length-append before (Some a ∷ [])) in
-    All-cons (λ id. is_alive (before ++ Some a ∷ states) id ≡ true) (record { 0 = n }) (living_from (n + 1) states) (alive_next before states (record { 0 = n }) a e)
-    (subst (λ all. All (λ id. is_alive all id ≡ true) (living_from (n + 1) states)) (append_assoc before (Some a ∷ []) states) (living_alive (before ++ Some a ∷ []) states (n + 1) longer))
+    All-cons (λ id. is_alive (before ++ Some a ∷ states) id ≡ true) (record { 0 = n }) (living_from (n + 1) states)
+    (alive_next before states (record { 0 = n }) a e)
+    (subst (λ all. All (λ id. is_alive all id ≡ true) (living_from (n + 1) states)) (append_assoc before (Some a ∷ []) states)
+    (living_alive (before ++ Some a ∷ []) states (n + 1) longer))
 
 pub all_living : {A : Type 0} (states : List (Option A)) → AreLiving states (living_from 1 states)
 all_living states = record { ascend = living_ascend states 1; live = living_alive [] states 1 refl }

@@ -1,6 +1,7 @@
 -- One moment of a run: it is entered, each that is scheduled acts once, the first fault ends the
 -- run, else the moment is closed, and something comes next.
-use Rattle.std.specs.Prelude.{ℕ, ◌+◌, ◌-◌, ◌^◌, min, Bool, ◌&&◌, ◌||◌, not, nat_eq, nat_lt, if◌then◌else◌, List, [], ◌∷◌, ◌++◌, length, map, slice_get, slice_set, Option, Some, None, is_some}
+use Rattle.std.specs.Prelude.{ℕ, ◌+◌, ◌-◌, ◌^◌, min, Bool, ◌&&◌, ◌||◌, not, nat_eq, nat_lt, if◌then◌else◌, List, [], ◌∷◌, ◌++◌, length, map}
+use Rattle.std.specs.Prelude.{slice_get, slice_set, Option, Some, None, is_some}
 use Rattle.std.specs.BTreeSet.{insert_key}
 use Rattle.std.specs.List.{count_by, filter, filter_map, flat_map, fold, list_any}
 use Rattle.std.specs.Option.{option_map, option_flatten, option_or}
@@ -113,7 +114,8 @@ reports m w at = filter_map (report_of m w at) w.scheduled
 abbrev pub first_fault : {A : Type 0} → Meaning A → ℕ → ℕ → Moment → List (Report A) → Option Fault
 first_fault m max_actors next at [] = None
 first_fault m max_actors next at (r ∷ rs) =
-    option_or (option_map (λ code. record { actor = r.id; code = code }) (fault_among m r.outcome at (bears_past max_actors next (length r.outcome.births))))
+    option_or (option_map (λ code. record { actor = r.id; code = code })
+    (fault_among m r.outcome at (bears_past max_actors next (length r.outcome.births))))
     (first_fault m max_actors (next + length r.outcome.births) at rs)
 
 -- the number of the next newborn

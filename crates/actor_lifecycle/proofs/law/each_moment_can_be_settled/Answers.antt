@@ -5,4 +5,5 @@ use Rattle.actor_lifecycle.proofs.Settled.{can_settle}
 use Rattle.actor_lifecycle.proofs.law.each_moment_can_be_settled.Goals as goal
 
 pub returns : goal.returns
-returns g c = can_settle g.A.Actor.meaning _ (run_whole g.A.Actor.meaning g.met.A.Actor.lawful c.args.setup.now (subst (λ s. IsSetup s) c.setup.view_is c.setup.invariant) c.args.moments)
+returns g c = can_settle g.A.Actor.meaning _
+    (run_whole g.A.Actor.meaning g.met.A.Actor.lawful c.args.setup.now (subst (λ s. IsSetup s) c.setup.view_is c.setup.invariant) c.args.moments)

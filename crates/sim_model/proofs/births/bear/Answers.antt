@@ -10,7 +10,8 @@ loop-index-preserved g c =
     let items = c.args.states.items in
     let source = YieldsList-from_vec {s = c.into_iter-index-iterator.result.iter} items (cc) (cc) in
     let numbered = YieldsList-from_enumerate {s = c.into_iter-index-iterator.result} source (cc) in
-    let turn = YieldsList-turn numbered c.loop-index.yielded c.loop-index.index-iterator c.loop-index.yielded_by c.next.result c.next.new.self (c.in-Some.index, c.in-Some.state) c.in-Some.is c.next.ensures.steps in
+    let turn = YieldsList-turn numbered c.loop-index.yielded c.loop-index.index-iterator c.loop-index.yielded_by c.next.result c.next.new.self
+    (c.in-Some.index, c.in-Some.state) c.in-Some.is c.next.ensures.steps in
     let within : length c.loop-index.yielded < length items = rw (length-enumerate_from 0 items) at turn.0 in
     let place = get_or-enumerate_from 0 items (length c.loop-index.yielded) (c.in-Some.index, c.in-Some.state) within in
     let index : c.in-Some.index ≡ length c.loop-index.yielded = omega (arith, ap (λ p. p.0) (turn.1 ∙ place)) in

@@ -7,7 +7,8 @@ pub returns-clause-kept : goal.returns-clause-kept
 returns-clause-kept g c =
     let kept = rw c.deref_mut.ensures.value at c.in_ok-born.ensures.kept in
     let count = ap (λ l. length l) (sym c.deref_mut.ensures.value) ∙ c.deref_mut.ensures.len in
-    c.of.ensures ∙ mapped_over without_births c.take_all_births.new.reports c.into_vec-kept.result.items c.args.reports _ kept count c.into_vec-kept.ensures
+    c.of.ensures
+    ∙ mapped_over without_births c.take_all_births.new.reports c.into_vec-kept.result.items c.args.reports _ kept count c.into_vec-kept.ensures
 
 pub returns-clause-born : goal.returns-clause-born
 returns-clause-born g c = c.of-2.ensures ∙ (rw (c.deref_mut.ensures.value, c.into_vec-kept.ensures) at c.in_ok-born.ensures.born)

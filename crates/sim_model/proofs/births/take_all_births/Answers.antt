@@ -36,5 +36,6 @@ loop-report-preserved g c =
     let borne = rw (c.into_vec.ensures, births, rest) at c.in_ok-bear.ensures in (
       rw rest (map_over_more without_births rs c.loop-report.reports i r c.loop-report-test.true c.loop-report.invariant.0 c.report-item.is),
       rw (c.len.ensures, births) (creator_numbered rs i r c.loop-report.first _ c.loop-report-test.true is c.loop-report.invariant.1),
-      rw (c.len.ensures, births) (creator_borne g.A.Actor.meaning rs i r c.loop-report.first c.loop-report.born.items c.bear.new.born.items _ c.loop-report-test.true is c.loop-report.invariant.2 borne),
+      rw (c.len.ensures, births)
+          (creator_borne g.A.Actor.meaning rs i r c.loop-report.first c.loop-report.born.items c.bear.new.born.items _ c.loop-report-test.true is c.loop-report.invariant.2 borne),
     )

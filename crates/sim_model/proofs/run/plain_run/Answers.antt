@@ -5,7 +5,8 @@ use Rattle.sim_model.proofs.Reaching.{reached_end, reached_next, start_reached}
 use Rattle.sim_model.proofs.run.plain_run.Goals as goal
 
 pub loop-next-init : goal.loop-next-init
-loop-next-init g c = rw c.in_ok-underway.ensures (start_reached g.A.Actor.meaning c.args.setup.now (subst (λ s. IsSetup s) c.setup.view_is c.setup.invariant))
+loop-next-init g c = rw c.in_ok-underway.ensures
+    (start_reached g.A.Actor.meaning c.args.setup.now (subst (λ s. IsSetup s) c.setup.view_is c.setup.invariant))
 
 pub step-requires-clause-whole : goal.step-requires-clause-whole
 step-requires-clause-whole g c = c.loop-next.invariant.whole

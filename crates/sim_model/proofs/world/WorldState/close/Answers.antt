@@ -11,5 +11,6 @@ close_with-requires-clause-sends g c = sends_kept c.args.reports _ c.in_ok-kept.
 pub returns : goal.returns
 returns g c =
     subst (λ w. OnOk c.close_with.result (c.close_with.new.self ≡ w))
-    (closed_kept g.A.Actor.meaning c.args.self.now c.args.reports c.in_ok-kept.kept c.in_ok-kept.born c.next_id-next.result c.in_ok-kept.ensures.kept c.in_ok-kept.ensures.born c.next_id-next.ensures)
+    (closed_kept g.A.Actor.meaning c.args.self.now c.args.reports c.in_ok-kept.kept c.in_ok-kept.born c.next_id-next.result
+    c.in_ok-kept.ensures.kept c.in_ok-kept.ensures.born c.next_id-next.ensures)
     c.close_with.ensures

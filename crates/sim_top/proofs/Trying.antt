@@ -4,7 +4,7 @@ use Rattle.std.proofs.Math.Seq.{take-append-add, take-length}
 use Rattle.std.proofs.lemmas.List.{take-append-le}
 use Rattle.std.specs.Io.KnownBytes.{Appends}
 use Rattle.sim_base.specs.Outside.{Rose}
-use Rattle.sim_base.proofs.Sent.{appends_more}
+use Rattle.std.proofs.KnownBytes.{Appends-trans}
 use Rattle.sim_top.specs.Lines.{Tries}
 use Rattle.sim_top.specs.Pieces.{Broke, Writes, Wrote}
 
@@ -27,7 +27,7 @@ module _ {E : Type 0} (written : E → Option (List ℕ)) (faults : E → ℕ) w
 
   pub wrote_more : (old mid new : E) (xs ys : List ℕ) → Done old mid xs → Done mid new ys → Done old new (xs ++ ys)
   wrote_more old mid new xs ys first second = record {
-    wrote = appends_more (written old) (written mid) (written new) xs ys first.wrote second.wrote;
+    wrote = Appends-trans (written old) (written mid) (written new) xs ys first.wrote second.wrote;
     later = omega (arith, first.later, second.later);
   }
 
@@ -45,7 +45,7 @@ module _ {E : Type 0} (written : E → Option (List ℕ)) (faults : E → ℕ) w
   broke_later old mid new xs ys first broke = record {
     count = length xs + broke.count;
     within = omega (arith, broke.within, length-append xs ys);
-    wrote = rw (take-append-add xs ys broke.count) (appends_more (written old) (written mid) (written new) xs (take broke.count ys) first.wrote broke.wrote);
+    wrote = rw (take-append-add xs ys broke.count) (Appends-trans (written old) (written mid) (written new) xs (take broke.count ys) first.wrote broke.wrote);
     rose = rose_from (faults old) (faults mid) (faults new) first.later broke.rose;
   }
 

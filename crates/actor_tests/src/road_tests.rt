@@ -83,8 +83,14 @@ const VEHICLE: [Step<'static>; 6] = [
     (Why::Tick, 10, &[], &[(2, 22, 0, 0)], &[], &[(1, 7)], true),
 ];
 
-fn route(alloc: Global) -> Result<Items<ActorId>, AllocError> {
-    Ok(Items::of(vec![in alloc; ActorId(1), ActorId(2)]?))
+/// A vehicle that hasn't entered its first road.
+fn waiting(alloc: Global) -> Result<Vehicle, AllocError> {
+    Ok(Vehicle {
+        route: Items::of(vec![in alloc; ActorId(1), ActorId(2)]?),
+        leg: 0,
+        since: 0,
+        waits: true,
+    })
 }
 
 /// A road lets cars in while there is room, and a vehicle drives along its route.
@@ -99,12 +105,7 @@ fn a_road_and_a_vehicle_act(rt: HostRuntime) -> Result<(), Fail> {
     has_names(&rt, &road, "road", &["cars", "queue"]);
     let road = each_comes_to(&rt, road, &ROAD)?;
     assert!(rt; road.queue.is_empty());
-    let vehicle = Vehicle {
-        route: route(rt.alloc())?,
-        leg: 0,
-        since: 0,
-        waits: true,
-    };
+    let vehicle = waiting(rt.alloc())?;
     has_names(&rt, &vehicle, "vehicle", &["leg", "trip"]);
     each_comes_to(&rt, vehicle, &VEHICLE)?;
     Ok(())
@@ -187,15 +188,20 @@ fn each_sets_out<R: Abort + AllocGlobal>(rt: &R, vehicles: &[Vehicle]) -> Result
     Ok(())
 }
 
-#[test]
-fn an_origin_bears_vehicles(rt: HostRuntime) -> Result<(), Fail> {
-    let mut origin = Origin {
-        route: route(rt.alloc())?,
+/// An origin of two vehicles, 4 ticks apart, of which none was born.
+fn origin(alloc: Global) -> Result<Origin, AllocError> {
+    Ok(Origin {
+        route: Items::of(vec![in alloc; ActorId(1), ActorId(2)]?),
         period: 4,
         count: 2,
         left: 2,
         born: 0,
-    };
+    })
+}
+
+#[test]
+fn an_origin_bears_vehicles(rt: HostRuntime) -> Result<(), Fail> {
+    let mut origin = origin(rt.alloc())?;
     for birth in ORIGIN {
         let (why, tick, told, ..) = birth;
         let inbox = letters(rt.alloc(), told)?;

@@ -4,7 +4,7 @@ ghost use Rattle.actor_trait.specs.InboxOrder.{AreUrgent};
 
 use crate::{LISTENER, Puppet};
 use sim_base::{ActorId, Ending, Items, Moment, Name, Row};
-use sim_model::{Setup, Start, each_run_ends, plain_run};
+use sim_model::{Setup, Start, each_run_ends, each_run_goes_on, each_world_is_whole, plain_run};
 use std::alloc::Global;
 use std::test::Fail;
 
@@ -434,8 +434,11 @@ fn puppets_run_as_the_definitions_say(rt: HostRuntime) -> Result<(), Fail> {
     ] {
         for case in cases {
             let setup = setup(rt.alloc(), case)?;
-            each_run_ends(&setup);
-            let results = plain_run(rt.alloc(), &setup)?;
+            let copy = setup.copy(rt.alloc())?;
+            each_run_ends(&copy);
+            each_run_goes_on(&copy, 1, 1);
+            each_world_is_whole(&copy, 1);
+            let results = plain_run(rt.alloc(), &copy)?;
             let (tick, diasca) = case.last;
             assert_eq!(rt; results.last, Moment { tick, diasca });
             assert_eq!(rt; results.ending, case.ending);

@@ -106,7 +106,7 @@ fn letters(alloc: Global, inbox: &[(u32, u32)]) -> Result<Vec<Letter>, Fail> {
 
 #[test]
 fn depots_bear_refills(rt: HostRuntime) -> Result<(), Fail> {
-    for case in CASES {
+    for case in &CASES {
         let context = Context {
             seed: 7,
             now: case.now,
@@ -119,7 +119,8 @@ fn depots_bear_refills(rt: HostRuntime) -> Result<(), Fail> {
             inbox: inbox.as_slice(),
         };
         let outcome = case.actor.act(rt.alloc(), &context, &event)?;
-        assert_eq!(rt; (outcome.state, outcome.retire), (case.state, case.retire));
+        assert_eq!(rt; outcome.state, case.state);
+        assert_eq!(rt; outcome.retire, case.retire);
         assert_eq!(rt; outcome.ticks.as_slice(), case.ticks);
         assert_eq!(rt; outcome.births.len(), case.births);
         assert!(rt;

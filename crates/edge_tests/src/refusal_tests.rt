@@ -58,8 +58,16 @@ fn refuses(rt: &(impl AllocGlobal + Abort), text: &str, cause: Cause<'_>) -> Res
     Ok(())
 }
 
-/// Texts that are no scenario, and why: the first check that fails.
-const REFUSED: [(&str, Cause); 108] = [
+/// Each of these texts is refused by its cause: the first check that fails.
+fn refuses_each(rt: &(impl AllocGlobal + Abort), cases: &[(&str, Cause<'_>)]) -> Result<(), Fail> {
+    for (text, cause) in cases {
+        refuses(rt, text, *cause)?;
+    }
+    Ok(())
+}
+
+/// Texts that are no JSON, or no object of the known fields.
+const WHOLE: [(&str, Cause); 19] = [
     (r#"{"format":1,"#, NotJson),
     (r#""#, NotJson),
     (r#"{"format":1,"seed":1e999}"#, NotJson),
@@ -67,6 +75,48 @@ const REFUSED: [(&str, Cause); 108] = [
     (r#"7"#, WrongType(0, "scenario")),
     (r#""scenario""#, WrongType(0, "scenario")),
     (r#"null"#, WrongType(0, "scenario")),
+    (r#"{}"#, Missing(0, "format")),
+    (
+        r#"{"format":1,"seed":18446744073709551615}"#,
+        Missing(0, "last_tick"),
+    ),
+    (r#"{"format":1,"last_tick":4}"#, Missing(0, "actors")),
+    (r#"{"format":1,"actors":[]}"#, Missing(0, "last_tick")),
+    (r#"{"format":1,"zeta":1}"#, UnknownField(0, "zeta")),
+    (r#"{"format":1,"urgent":[]}"#, UnknownField(0, "urgent")),
+    (
+        r#"{"format":1,"zeta":1,"Zeta":2,"actors":[]}"#,
+        UnknownField(0, "Zeta"),
+    ),
+    (r#"{"":1,"format":1}"#, UnknownField(0, "")),
+    (
+        "{\"caf\u{e9}\u{7f}~ \":1}",
+        UnknownField(0, "caf\u{e9}\u{7f}~ "),
+    ),
+    (r#"{"\u0000\n":1}"#, UnknownField(0, "\0\n")),
+    (
+        "{\"aaaaaaaaaaaaaaaaaaaaaaaaaaaaaaaaaaaaaaaaaaaaaaaaaaaaaaaaaaaaaaa\u{e9}\":1}",
+        UnknownField(
+            0,
+            "aaaaaaaaaaaaaaaaaaaaaaaaaaaaaaaaaaaaaaaaaaaaaaaaaaaaaaaaaaaaaaa\u{e9}",
+        ),
+    ),
+    (
+        r#"{"aaaaaaaaaaaaaaaaaaaaaaaaaaaaaaaaaaaaaaaaaaaaaaaaaaaaaaaaaaaaaaaab":1}"#,
+        UnknownField(
+            0,
+            "aaaaaaaaaaaaaaaaaaaaaaaaaaaaaaaaaaaaaaaaaaaaaaaaaaaaaaaaaaaaaaaa",
+        ),
+    ),
+];
+
+#[test]
+fn a_whole_of_other_fields_is_refused(rt: HostRuntime) -> Result<(), Fail> {
+    refuses_each(&rt, &WHOLE)
+}
+
+/// Texts of which a field of the whole is of the wrong type or out of range.
+const NUMBERS: [(&str, Cause); 24] = [
     (r#"{"format":"1"}"#, WrongType(0, "format")),
     (
         r#"{"format":1,"seed":-9223372036854775809}"#,
@@ -97,26 +147,6 @@ const REFUSED: [(&str, Cause); 108] = [
         WrongType(0, "actors"),
     ),
     (
-        r#"{"format":1,"last_tick":4,"actors":[{"name":"c","kind":"clock","period":2,"count":2},[]]}"#,
-        WrongType(2, ""),
-    ),
-    (
-        r#"{"format":1,"last_tick":4,"actors":[{"name":"a","kind":1}]}"#,
-        WrongType(1, "kind"),
-    ),
-    (
-        r#"{"format":1,"last_tick":4,"actors":[{"name":"c","kind":"clock","period":1.5,"count":2}]}"#,
-        WrongType(1, "period"),
-    ),
-    (
-        r#"{"format":1,"last_tick":4,"actors":[{"name":"c","kind":"clock","period":2,"count":"2"}]}"#,
-        WrongType(1, "count"),
-    ),
-    (
-        r#"{"format":1,"last_tick":4,"actors":[{"name":"a","kind":"random_customer","machine":["a"],"low":1,"high":1,"money":0,"offer":0}]}"#,
-        WrongType(1, "machine"),
-    ),
-    (
         r#"{"format":1,"seed":1.0,"last_tick":4,"actors":[]}"#,
         WrongType(0, "seed"),
     ),
@@ -144,6 +174,141 @@ const REFUSED: [(&str, Cause); 108] = [
         r#"{"format":1,"last_tick":4,"results":["+*",1,"x"],"actors":[]}"#,
         WrongType(0, "results"),
     ),
+    (r#"{"format":0,"seed":-1}"#, OutOfRange(0, "format", 0)),
+    (
+        r#"{"format":1,"seed":-9223372036854775808}"#,
+        OutOfRange(0, "seed", -9223372036854775808),
+    ),
+    (
+        r#"{"format":2,"seed":[],"last_tick":1}"#,
+        OutOfRange(0, "format", 2),
+    ),
+    (
+        r#"{"format":1,"seed":-1,"last_tick":4,"actors":[]}"#,
+        OutOfRange(0, "seed", -1),
+    ),
+    (
+        r#"{"format":1,"last_tick":1000000001,"actors":[]}"#,
+        OutOfRange(0, "last_tick", 1000000001),
+    ),
+    (
+        r#"{"format":1,"last_tick":4,"diasca_limit":0,"actors":[]}"#,
+        OutOfRange(0, "diasca_limit", 0),
+    ),
+    (
+        r#"{"format":1,"last_tick":4,"diasca_limit":65536,"actors":[]}"#,
+        OutOfRange(0, "diasca_limit", 65536),
+    ),
+    (
+        r#"{"format":1,"last_tick":4,"max_actors":0,"actors":[]}"#,
+        OutOfRange(0, "max_actors", 0),
+    ),
+    (
+        r#"{"format":1,"last_tick":4,"max_actors":200001,"actors":[]}"#,
+        OutOfRange(0, "max_actors", 200001),
+    ),
+];
+
+#[test]
+fn fields_of_the_whole_are_checked(rt: HostRuntime) -> Result<(), Fail> {
+    refuses_each(&rt, &NUMBERS)
+}
+
+/// Rules, names and kinds that are none, and too many actors.
+const LISTS: [(&str, Cause); 16] = [
+    (
+        r#"{"format":1,"last_tick":4,"results":["+a*","-b","*"],"actors":1}"#,
+        BadRule(3),
+    ),
+    (
+        r#"{"format":1,"last_tick":4,"results":["+aaaaaaaaaaaaaaaaaaaaaaaaaaaaaaaaaaaaaaaaaaaaaaaaaaaaaaaaaaaaaaaaa"]}"#,
+        BadRule(1),
+    ),
+    (
+        r#"{"format":1,"last_tick":4,"results":["+a*","x"],"actors":[]}"#,
+        BadRule(2),
+    ),
+    (
+        r#"{"format":1,"last_tick":4,"results":["+"],"actors":[]}"#,
+        BadRule(1),
+    ),
+    (
+        r#"{"format":1,"last_tick":4,"results":["+A"],"actors":[]}"#,
+        BadRule(1),
+    ),
+    (
+        r#"{"format":1,"last_tick":4,"results":["-****************************************************************","+*****************************************************************"],"actors":[]}"#,
+        BadRule(2),
+    ),
+    (
+        r#"{"format":1,"last_tick":4,"max_actors":1,"actors":[1,2,3]}"#,
+        TooManyActors(3),
+    ),
+    (
+        r#"{"format":1,"last_tick":4,"actors":[{"name":""}]}"#,
+        BadName(1),
+    ),
+    (
+        r#"{"format":1,"last_tick":4,"actors":[{"name":"A"}]}"#,
+        BadName(1),
+    ),
+    (
+        r#"{"format":1,"last_tick":4,"actors":[{"name":"b-c"}]}"#,
+        BadName(1),
+    ),
+    (
+        r#"{"format":1,"last_tick":4,"actors":[{"name":"a234567890_234567890_234567890_23"}]}"#,
+        BadName(1),
+    ),
+    (
+        r#"{"format":1,"last_tick":4,"actors":[{"name":"c","kind":"clock","period":2,"count":2},{"name":"c","kind":"zeta"}]}"#,
+        Twice("c"),
+    ),
+    (
+        r#"{"format":1,"last_tick":4,"actors":[{"name":"a","kind":"clock","period":1,"count":1},{"name":"a","kind":"clock"},{"name":"b-c"}]}"#,
+        Twice("a"),
+    ),
+    (
+        r#"{"format":1,"last_tick":4,"actors":[{"name":"a","kind":"vehicle"}]}"#,
+        UnknownKind(1),
+    ),
+    (
+        r#"{"format":1,"last_tick":4,"actors":[{"name":"a","kind":"Clock"}]}"#,
+        UnknownKind(1),
+    ),
+    (
+        r#"{"format":1,"last_tick":4,"actors":[{"name":"o","kind":"origin","route":["r"],"period":1,"count":2}]}"#,
+        UnknownKind(1),
+    ),
+];
+
+#[test]
+fn rules_names_and_kinds_are_checked(rt: HostRuntime) -> Result<(), Fail> {
+    refuses_each(&rt, &LISTS)
+}
+
+/// Fields of actors that are missing, unknown or of the wrong type, or that name nobody.
+const ACTORS: [(&str, Cause); 27] = [
+    (
+        r#"{"format":1,"last_tick":4,"actors":[{"name":"c","kind":"clock","period":2,"count":2},[]]}"#,
+        WrongType(2, ""),
+    ),
+    (
+        r#"{"format":1,"last_tick":4,"actors":[{"name":"a","kind":1}]}"#,
+        WrongType(1, "kind"),
+    ),
+    (
+        r#"{"format":1,"last_tick":4,"actors":[{"name":"c","kind":"clock","period":1.5,"count":2}]}"#,
+        WrongType(1, "period"),
+    ),
+    (
+        r#"{"format":1,"last_tick":4,"actors":[{"name":"c","kind":"clock","period":2,"count":"2"}]}"#,
+        WrongType(1, "count"),
+    ),
+    (
+        r#"{"format":1,"last_tick":4,"actors":[{"name":"a","kind":"random_customer","machine":["a"],"low":1,"high":1,"money":0,"offer":0}]}"#,
+        WrongType(1, "machine"),
+    ),
     (
         r#"{"format":1,"last_tick":4,"actors":[[]]}"#,
         WrongType(1, ""),
@@ -160,12 +325,6 @@ const REFUSED: [(&str, Cause); 108] = [
         r#"{"format":1,"last_tick":9,"diasca_limit":5,"results":["+*"],"actors":[{"name":"p","kind":"ball","peer":1,"at":1,"hits":9},{"name":"q","kind":"ball","peer":"p","at":1,"hits":0}]}"#,
         WrongType(1, "peer"),
     ),
-    (r#"{}"#, Missing(0, "format")),
-    (
-        r#"{"format":1,"seed":18446744073709551615}"#,
-        Missing(0, "last_tick"),
-    ),
-    (r#"{"format":1,"last_tick":4}"#, Missing(0, "actors")),
     (
         r#"{"format":1,"last_tick":4,"actors":[{"name":"aaaaaaaaaaaaaaaaaaaaaaaaaaaaaaaa"}]}"#,
         Missing(1, "kind"),
@@ -182,7 +341,6 @@ const REFUSED: [(&str, Cause); 108] = [
         r#"{"format":1,"last_tick":4,"actors":[{"name":"m","kind":"machine","stock":0,"price":0}]}"#,
         Missing(1, "close_at"),
     ),
-    (r#"{"format":1,"actors":[]}"#, Missing(0, "last_tick")),
     (
         r#"{"format":1,"last_tick":4,"actors":[{},[]]}"#,
         Missing(1, "name"),
@@ -199,8 +357,6 @@ const REFUSED: [(&str, Cause); 108] = [
         r#"{"format":1,"last_tick":4,"actors":[{"name":"c","kind":"clock","count":2}]}"#,
         Missing(1, "period"),
     ),
-    (r#"{"format":1,"zeta":1}"#, UnknownField(0, "zeta")),
-    (r#"{"format":1,"urgent":[]}"#, UnknownField(0, "urgent")),
     (
         r#"{"format":1,"last_tick":4,"actors":[{"name":"c","kind":"clock","period":2,"count":2,"route":[]}]}"#,
         UnknownField(1, "route"),
@@ -214,30 +370,6 @@ const REFUSED: [(&str, Cause); 108] = [
         UnknownField(2, "zz"),
     ),
     (
-        r#"{"format":1,"zeta":1,"Zeta":2,"actors":[]}"#,
-        UnknownField(0, "Zeta"),
-    ),
-    (r#"{"":1,"format":1}"#, UnknownField(0, "")),
-    (
-        "{\"caf\u{e9}\u{7f}~ \":1}",
-        UnknownField(0, "caf\u{e9}\u{7f}~ "),
-    ),
-    (r#"{"\u0000\n":1}"#, UnknownField(0, "\0\n")),
-    (
-        "{\"aaaaaaaaaaaaaaaaaaaaaaaaaaaaaaaaaaaaaaaaaaaaaaaaaaaaaaaaaaaaaaa\u{e9}\":1}",
-        UnknownField(
-            0,
-            "aaaaaaaaaaaaaaaaaaaaaaaaaaaaaaaaaaaaaaaaaaaaaaaaaaaaaaaaaaaaaaa\u{e9}",
-        ),
-    ),
-    (
-        r#"{"aaaaaaaaaaaaaaaaaaaaaaaaaaaaaaaaaaaaaaaaaaaaaaaaaaaaaaaaaaaaaaaab":1}"#,
-        UnknownField(
-            0,
-            "aaaaaaaaaaaaaaaaaaaaaaaaaaaaaaaaaaaaaaaaaaaaaaaaaaaaaaaaaaaaaaaa",
-        ),
-    ),
-    (
         r#"{"format":1,"last_tick":4,"actors":[{"name":"c","kind":"clock","period":2,"count":2,"":0}]}"#,
         UnknownField(1, ""),
     ),
@@ -245,11 +377,35 @@ const REFUSED: [(&str, Cause); 108] = [
         r#"{"format":1,"last_tick":4,"actors":[{"name":"c","kind":"clock","period":2,"count":2,"peer":"c","beats":0}]}"#,
         UnknownField(1, "beats"),
     ),
-    (r#"{"format":0,"seed":-1}"#, OutOfRange(0, "format", 0)),
     (
-        r#"{"format":1,"seed":-9223372036854775808}"#,
-        OutOfRange(0, "seed", -9223372036854775808),
+        r#"{"format":1,"last_tick":4,"actors":[{"name":"a","kind":"customer","machine":"m","period":1,"money":0,"offer":1}]}"#,
+        UnknownActor(1, "machine"),
     ),
+    (
+        r#"{"format":1,"last_tick":4,"actors":[{"name":"r","kind":"refill","machine":"R","cans":1}]}"#,
+        UnknownActor(1, "machine"),
+    ),
+    (
+        r#"{"format":1,"last_tick":4,"actors":[{"name":"d","kind":"depot","machine":"x","at":1,"trucks":64,"cans":1}]}"#,
+        UnknownActor(1, "machine"),
+    ),
+    (
+        r#"{"format":1,"last_tick":9,"diasca_limit":5,"results":["+*"],"actors":[{"name":"p","kind":"ball","peer":"z","at":1,"hits":9},{"name":"q","kind":"ball","peer":"p","at":1,"hits":0}]}"#,
+        UnknownActor(1, "peer"),
+    ),
+    (
+        r#"{"format":1,"last_tick":9,"diasca_limit":5,"results":["+*"],"actors":[{"name":"p","kind":"ball","peer":"q","at":1,"hits":9},{"name":"q","kind":"ball","peer":"","at":1,"hits":0}]}"#,
+        UnknownActor(2, "peer"),
+    ),
+];
+
+#[test]
+fn fields_of_actors_are_checked(rt: HostRuntime) -> Result<(), Fail> {
+    refuses_each(&rt, &ACTORS)
+}
+
+/// Numbers of actors that are out of their range.
+const RANGES: [(&str, Cause); 22] = [
     (
         r#"{"format":1,"last_tick":4,"actors":[{"name":"c","kind":"clock","period":0,"count":2}]}"#,
         OutOfRange(1, "period", 0),
@@ -323,34 +479,6 @@ const REFUSED: [(&str, Cause); 108] = [
         OutOfRange(1, "cans", 0),
     ),
     (
-        r#"{"format":2,"seed":[],"last_tick":1}"#,
-        OutOfRange(0, "format", 2),
-    ),
-    (
-        r#"{"format":1,"seed":-1,"last_tick":4,"actors":[]}"#,
-        OutOfRange(0, "seed", -1),
-    ),
-    (
-        r#"{"format":1,"last_tick":1000000001,"actors":[]}"#,
-        OutOfRange(0, "last_tick", 1000000001),
-    ),
-    (
-        r#"{"format":1,"last_tick":4,"diasca_limit":0,"actors":[]}"#,
-        OutOfRange(0, "diasca_limit", 0),
-    ),
-    (
-        r#"{"format":1,"last_tick":4,"diasca_limit":65536,"actors":[]}"#,
-        OutOfRange(0, "diasca_limit", 65536),
-    ),
-    (
-        r#"{"format":1,"last_tick":4,"max_actors":0,"actors":[]}"#,
-        OutOfRange(0, "max_actors", 0),
-    ),
-    (
-        r#"{"format":1,"last_tick":4,"max_actors":200001,"actors":[]}"#,
-        OutOfRange(0, "max_actors", 200001),
-    ),
-    (
         r#"{"format":1,"last_tick":4,"actors":[{"name":"c","kind":"clock","period":1,"count":1000000001}]}"#,
         OutOfRange(1, "count", 1000000001),
     ),
@@ -366,98 +494,11 @@ const REFUSED: [(&str, Cause); 108] = [
         r#"{"format":1,"last_tick":4,"actors":[{"name":"a","kind":"random_customer","machine":"a","low":9,"high":8,"money":0,"offer":0}]}"#,
         OutOfRange(1, "high", 8),
     ),
-    (
-        r#"{"format":1,"last_tick":4,"results":["+a*","-b","*"],"actors":1}"#,
-        BadRule(3),
-    ),
-    (
-        r#"{"format":1,"last_tick":4,"results":["+aaaaaaaaaaaaaaaaaaaaaaaaaaaaaaaaaaaaaaaaaaaaaaaaaaaaaaaaaaaaaaaaa"]}"#,
-        BadRule(1),
-    ),
-    (
-        r#"{"format":1,"last_tick":4,"results":["+a*","x"],"actors":[]}"#,
-        BadRule(2),
-    ),
-    (
-        r#"{"format":1,"last_tick":4,"results":["+"],"actors":[]}"#,
-        BadRule(1),
-    ),
-    (
-        r#"{"format":1,"last_tick":4,"results":["+A"],"actors":[]}"#,
-        BadRule(1),
-    ),
-    (
-        r#"{"format":1,"last_tick":4,"results":["-****************************************************************","+*****************************************************************"],"actors":[]}"#,
-        BadRule(2),
-    ),
-    (
-        r#"{"format":1,"last_tick":4,"max_actors":1,"actors":[1,2,3]}"#,
-        TooManyActors(3),
-    ),
-    (
-        r#"{"format":1,"last_tick":4,"actors":[{"name":""}]}"#,
-        BadName(1),
-    ),
-    (
-        r#"{"format":1,"last_tick":4,"actors":[{"name":"A"}]}"#,
-        BadName(1),
-    ),
-    (
-        r#"{"format":1,"last_tick":4,"actors":[{"name":"b-c"}]}"#,
-        BadName(1),
-    ),
-    (
-        r#"{"format":1,"last_tick":4,"actors":[{"name":"a234567890_234567890_234567890_23"}]}"#,
-        BadName(1),
-    ),
-    (
-        r#"{"format":1,"last_tick":4,"actors":[{"name":"c","kind":"clock","period":2,"count":2},{"name":"c","kind":"zeta"}]}"#,
-        Twice("c"),
-    ),
-    (
-        r#"{"format":1,"last_tick":4,"actors":[{"name":"a","kind":"clock","period":1,"count":1},{"name":"a","kind":"clock"},{"name":"b-c"}]}"#,
-        Twice("a"),
-    ),
-    (
-        r#"{"format":1,"last_tick":4,"actors":[{"name":"a","kind":"vehicle"}]}"#,
-        UnknownKind(1),
-    ),
-    (
-        r#"{"format":1,"last_tick":4,"actors":[{"name":"a","kind":"Clock"}]}"#,
-        UnknownKind(1),
-    ),
-    (
-        r#"{"format":1,"last_tick":4,"actors":[{"name":"o","kind":"origin","route":["r"],"period":1,"count":2}]}"#,
-        UnknownKind(1),
-    ),
-    (
-        r#"{"format":1,"last_tick":4,"actors":[{"name":"a","kind":"customer","machine":"m","period":1,"money":0,"offer":1}]}"#,
-        UnknownActor(1, "machine"),
-    ),
-    (
-        r#"{"format":1,"last_tick":4,"actors":[{"name":"r","kind":"refill","machine":"R","cans":1}]}"#,
-        UnknownActor(1, "machine"),
-    ),
-    (
-        r#"{"format":1,"last_tick":4,"actors":[{"name":"d","kind":"depot","machine":"x","at":1,"trucks":64,"cans":1}]}"#,
-        UnknownActor(1, "machine"),
-    ),
-    (
-        r#"{"format":1,"last_tick":9,"diasca_limit":5,"results":["+*"],"actors":[{"name":"p","kind":"ball","peer":"z","at":1,"hits":9},{"name":"q","kind":"ball","peer":"p","at":1,"hits":0}]}"#,
-        UnknownActor(1, "peer"),
-    ),
-    (
-        r#"{"format":1,"last_tick":9,"diasca_limit":5,"results":["+*"],"actors":[{"name":"p","kind":"ball","peer":"q","at":1,"hits":9},{"name":"q","kind":"ball","peer":"","at":1,"hits":0}]}"#,
-        UnknownActor(2, "peer"),
-    ),
 ];
 
 #[test]
-fn other_texts_are_refused(rt: HostRuntime) -> Result<(), Fail> {
-    for (text, cause) in REFUSED {
-        refuses(&rt, text, cause)?;
-    }
-    Ok(())
+fn numbers_of_actors_are_checked(rt: HostRuntime) -> Result<(), Fail> {
+    refuses_each(&rt, &RANGES)
 }
 
 /// The front of a text with many rules.

@@ -6,6 +6,7 @@ use crate::{LISTENER, Puppet};
 use sim_base::{ActorId, Ending, Items, Moment, Name, Row};
 use sim_model::{Setup, Start, each_run_ends, each_run_goes_on, each_world_is_whole, plain_run};
 use std::alloc::Global;
+use std::process::Abort;
 use std::test::Fail;
 
 /// Puppets `a` to `d`, what they are run with until tick 9, and what the run must come to.
@@ -424,27 +425,40 @@ fn are_rows(rows: &[Row], expected: &[(u64, u32, u32, i64)]) -> bool {
         })
 }
 
-#[test]
-fn puppets_run_as_the_definitions_say(rt: HostRuntime) -> Result<(), Fail> {
-    for cases in [
-        RUNS.as_slice(),
-        INBOXES.as_slice(),
-        FAULTS.as_slice(),
-        LISTS.as_slice(),
-    ] {
-        for case in cases {
-            let setup = setup(rt.alloc(), case)?;
-            let copy = setup.copy(rt.alloc())?;
-            each_run_ends(&copy);
-            each_run_goes_on(&copy, 1, 1);
-            each_world_is_whole(&copy, 1);
-            let results = plain_run(rt.alloc(), &copy)?;
-            let (tick, diasca) = case.last;
-            assert_eq!(rt; results.last, Moment { tick, diasca });
-            assert_eq!(rt; results.ending, case.ending);
-            assert_eq!(rt; results.dead_letters, case.dead_letters);
-            assert!(rt; are_rows(results.rows.as_slice(), case.rows));
-        }
+/// Each run comes to its end, with its rows.
+fn runs_each(rt: &(impl AllocGlobal + Abort), cases: &[Case<'_>]) -> Result<(), Fail> {
+    for case in cases {
+        let setup = setup(rt.alloc(), case)?;
+        let copy = setup.copy(rt.alloc())?;
+        each_run_ends(&copy);
+        each_run_goes_on(&copy, 1, 1);
+        each_world_is_whole(&copy, 1);
+        let results = plain_run(rt.alloc(), &copy)?;
+        let (tick, diasca) = case.last;
+        assert_eq!(rt; results.last, Moment { tick, diasca });
+        assert_eq!(rt; results.ending, case.ending);
+        assert_eq!(rt; results.dead_letters, case.dead_letters);
+        assert!(rt; are_rows(results.rows.as_slice(), case.rows));
     }
     Ok(())
+}
+
+#[test]
+fn letters_births_and_limits_are_as_defined(rt: HostRuntime) -> Result<(), Fail> {
+    runs_each(&rt, &RUNS)
+}
+
+#[test]
+fn urgent_letters_come_first(rt: HostRuntime) -> Result<(), Fail> {
+    runs_each(&rt, &INBOXES)
+}
+
+#[test]
+fn each_fault_ends_the_run(rt: HostRuntime) -> Result<(), Fail> {
+    runs_each(&rt, &FAULTS)
+}
+
+#[test]
+fn lists_are_at_most_1024(rt: HostRuntime) -> Result<(), Fail> {
+    runs_each(&rt, &LISTS)
 }

@@ -45,7 +45,10 @@ fn an_urgent_customer_gets_the_can(rt: HostRuntime) -> Result<(), Fail> {
         let expected = format!(in alloc;
             "tick,diasca,actor,probe,value\n1,2,ann,cans,{ann}\n1,2,bob,cans,{bob}\nend,1,2,tick_limit,0\n"
         )?;
-        assert_eq!(rt; text(alloc, &results, &rules)?.as_slice(), expected.as_bytes());
+        assert_eq!(rt;
+            text(alloc, &results, &rules)?.as_slice(),
+            expected.as_bytes()
+        );
     }
     Ok(())
 }

@@ -1,5 +1,6 @@
 -- What an index finds.
-use Rattle.std.proofs.Common.{◌≡◌, ◌≢◌, ℕ, suc, zero, ◌+◌, ◌-◌, ◌<◌, ◌≤◌, Bool, true, false, not, ◌&&◌, ◌==◌, nat_lt, ◌⊎◌, inl, inr, List, [], ◌∷◌, refl, sym, ap, arith, ◌∙◌, subst, length, get_or, take, drop, map, Some, slice_get, Contains}
+use Rattle.std.proofs.Common.{◌≡◌, ◌≢◌, ℕ, suc, zero, ◌+◌, ◌-◌, ◌<◌, ◌≤◌, Bool, true, false, not, ◌&&◌, ◌==◌, nat_lt, ◌⊎◌, inl, inr, List, []}
+use Rattle.std.proofs.Common.{◌∷◌, refl, sym, ap, arith, ◌∙◌, subst, length, get_or, take, drop, map, Some, slice_get, Contains}
 use Rattle.std.proofs.lemmas.Bool.{cases_eq}
 use Rattle.std.proofs.lemmas.Bool.Decides.{nat_tests}
 use Rattle.std.proofs.lemmas.Cmp.{nat_cmp_total}
@@ -51,6 +52,20 @@ run_at ls rs ss at start end to read h p within equal s e =
     let many : length ss ≡ length rs = h.many in
     let first : start ≡ get_or ss at 0 = s ∙ get_or_default ss at start 0 (omega arith) in
     rw (first, e) (found ls rs ss at to h inside (subst (λ (x : List ActorId). (d : ActorId) → nat_cmp (get_or x at d).0 to.0 ≡ Equal) p equal))
+
+-- the run of a recipient that was read at its place
+pub run_near : (ls : List Letter) (rs : List ActorId) (ss : List ℕ) (at start end : ℕ) (to : ActorId) (read : List ActorId) (r : ActorId)
+    → IsIndex ls rs ss → read ≡ rs → at < length read → r ≡ get_or read at r → r.0 ≡ to.0
+    → start ≡ get_or ss at start → end ≡ get_or ss (at + 1) (length ls) → IsRun ls start end to
+run_near ls rs ss at start end to read r h p within is test s e =
+    let inside : at < length rs = subst (λ (x : List ActorId). at < length x) p within in
+    let many : length ss ≡ length rs = h.many in
+    let first : start ≡ get_or ss at 0 = s ∙ get_or_default ss at start 0 (omega arith) in
+    let id : r ≡ to = one_id r to test in
+    let there : r ≡ get_or rs at r = subst (λ (x : List ActorId). r ≡ get_or x at r) p is in
+    let got : slice_get rs at ≡ Some r = slice_get-get_or rs at r inside ∙ ap (λ (q : ActorId). Some q) (sym there) in
+    rw (first, e) (subst (λ (q : ActorId). IsRun ls (get_or ss at 0) (end_of ls ss at) q) id
+    (h.runs at (get_or ss at 0) r got (slice_get-get_or ss at 0 (omega arith))))
 
 pub range_some : (ls : List Letter) (start end : ℕ) (to : ActorId) → IsRun ls start end to → start ≤ end
 range_some ls start end to h = let some : start < end = h.some in omega arith

@@ -1,7 +1,9 @@
 -- The index of letters, one letter after the other.
-use Rattle.std.proofs.Common.{◌≡◌, ◌≢◌, ℕ, suc, zero, ◌+◌, ◌-◌, ◌<◌, ◌≤◌, Bool, true, false, cond, ◌==◌, ◌⊎◌, inl, inr, List, [], ◌∷◌, ◌++◌, refl, sym, ap, arith, ◌∙◌, subst, length, get_or, take, drop, Option, Some, None, slice_get}
+use Rattle.std.proofs.Common.{◌≡◌, ◌≢◌, ℕ, suc, zero, ◌+◌, ◌-◌, ◌<◌, ◌≤◌, Bool, true, false, cond, ◌==◌, ◌⊎◌, inl, inr, List, [], ◌∷◌, ◌++◌}
+use Rattle.std.proofs.Common.{refl, sym, ap, arith, ◌∙◌, subst, length, get_or, take, drop, Option, Some, None, slice_get}
 use Rattle.std.proofs.lemmas.Bool.Decides.{nat_tests}
-use Rattle.std.proofs.lemmas.List.{append-nil, take_rest, take-append-le, drop-append-le, drop_at, length_push, length-drop, length-take-le, get_or_append_left, get_or_push, get_or-take, get_or_default, get_or_past, take_more}
+use Rattle.std.proofs.lemmas.List.{append-nil, take_rest, take-append-le, drop-append-le, drop_at, length_push, length-drop, length-take-le}
+use Rattle.std.proofs.lemmas.List.{get_or_append_left, get_or_push, get_or-take, get_or_default, get_or_past, take_more}
 use Rattle.std.proofs.lemmas.List.Elements.{filter-append}
 use Rattle.std.proofs.lemmas.Option.{get_or_from_slice_get, slice_get_within, slice_get_cases}
 use Rattle.std.specs.List.{filter}
@@ -172,7 +174,9 @@ more_new ls rs ss l h above = record {
         let long : length (ss ++ length ls ∷ []) ≡ length ss + 1 = length_push ss (length ls) in
         let none : filter (is_to l.to) ls ≡ [] = h.others l.to (λ j q g k. let less : q.0 < l.to.0 = above j q g in absurd (omega arith)) in
         let new = run_new ls l none (itself l) in
-        rw (end_past (ls ++ l ∷ []) (ss ++ length ls ∷ []) i (omega arith)) (subst (λ (x : ActorId). IsRun (ls ++ l ∷ []) s (length (ls ++ l ∷ [])) x) e.1 (subst (λ (x : ℕ). IsRun (ls ++ l ∷ []) x (length (ls ++ l ∷ [])) l.to) f.1 new))
+        rw (end_past (ls ++ l ∷ []) (ss ++ length ls ∷ []) i (omega arith))
+        (subst (λ (x : ActorId). IsRun (ls ++ l ∷ []) s (length (ls ++ l ∷ [])) x) e.1
+        (subst (λ (x : ℕ). IsRun (ls ++ l ∷ []) x (length (ls ++ l ∷ [])) l.to) f.1 new))
 
 pub index_none : IsIndex [] [] []
 index_none = record {

@@ -8,3 +8,4 @@ pub mod Joining
 pub mod Keys
 pub mod Letters
 pub mod Placing
+pub mod Spotting

@@ -1,3 +1,4 @@
 pub mod Inboxes
 pub mod Index
 pub mod Keyed
+pub mod Spots

@@ -1,4 +1,4 @@
-ghost use Rattle.std.specs.Prelude.{◌≡◌, ◌<◌, ◌↔◌, List, length, map, Contains, IfOk};
+ghost use Rattle.std.specs.Prelude.{◌≡◌, ◌<◌, ◌↔◌, List, [], length, map, Contains, IfOk, OnOk};
 ghost use Rattle.std.specs.List.{flat_map};
 ghost use Rattle.std.specs.List.Sorted.{IsNonDecreasingBy, IsPermutation, IsStrictlyIncreasing};
 ghost use Rattle.sim_base.specs.declared.ids.ActorId.{ActorId};
@@ -12,6 +12,7 @@ use actor_trait::{Letter, Precedence};
 use sim_base::{ActorId, Items, Memory};
 use std::alloc::Global;
 use std::marker::Model;
+use std::mem;
 
 /// The inboxes of all who have a letter. Contracts see the list of all letters, by recipient, each
 /// inbox in its order.
@@ -50,10 +51,42 @@ impl Inboxes {
         ensures arrival { AreDistinct letters.now → (others : List Letter) → IsPermutation letters.now others
             → IfOk result (λ inboxes. AreInboxesOf inboxes others precedence.now) }
     {
-        let mut all = letters.to_vec(alloc)?;
+        let mut inboxes = Inboxes::new(alloc);
+        inboxes.renew(alloc, letters, precedence)?;
+        Ok(inboxes)
+    }
+
+    /// No inboxes. They take no memory.
+    pub fn new(alloc: Global) -> Inboxes
+        ensures { result ≡ [] }
+    {
+        Inboxes {
+            letters: Vec::new(alloc),
+            index: Index::new(alloc),
+        }
+    }
+
+    /// Makes the inboxes of these letters, as `of` does, in the room that is there. Err is want of memory;
+    /// there may be no inboxes then.
+    pub fn renew(
+        &mut self,
+        alloc: Global,
+        letters: &[Letter],
+        precedence: &Precedence<'_>,
+    ) -> Result<(), Memory>
+        ensures inboxes { OnOk result (AreInboxesOf self.new letters.now precedence.now) }
+        ensures by_recipient { OnOk result (IsNonDecreasingBy (λ l. l.to.0) self.new) }
+    {
+        let Inboxes {
+            letters: mut all,
+            index,
+        } = mem::replace(self, Inboxes::new(alloc));
+        all.clear();
+        all.extend_from_slice(letters)?;
         sort_by_recipient(&mut all)?;
         order_groups(alloc, &mut all, precedence)?;
-        Inboxes::indexed(alloc, all)
+        *self = Inboxes::indexed(index, all)?;
+        Ok(())
     }
 
     /// Those who have a letter, ascending. The letters lie by recipient, too.
@@ -69,7 +102,15 @@ impl Inboxes {
     pub fn inbox(&self, to: ActorId) -> &[Letter]
         ensures { result.now ≡ inbox_of self.now to }
     {
-        let (start, end) = self.index.range(&self.letters, to);
+        self.inbox_near(0, to)
+    }
+
+    /// The letters to one, as `inbox` gives them. Whether it is the recipient at the place `near` is tried
+    /// first, which spares the search of who goes through the recipients in order; any number is right.
+    pub fn inbox_near(&self, near: usize, to: ActorId) -> &[Letter]
+        ensures { result.now ≡ inbox_of self.now to }
+    {
+        let (start, end) = self.index.range(&self.letters, near, to);
         &self.letters[start..end]
     }
 
@@ -82,16 +123,16 @@ impl Inboxes {
     {
         let mut all = all_letters(alloc, parts)?;
         sort_by_recipient(&mut all)?;
-        Inboxes::indexed(alloc, all)
+        Inboxes::indexed(Index::new(alloc), all)
     }
 
-    /// The inboxes of letters that stand by recipient.
-    fn indexed(alloc: Global, letters: Vec<Letter>) -> Result<Inboxes, Memory>
+    /// The inboxes of letters that stand by recipient, with their index in the room of this one.
+    fn indexed(index: Index, letters: Vec<Letter>) -> Result<Inboxes, Memory>
         requires { IsNonDecreasingBy (λ l. l.to.0) letters.items }
         ensures same { IfOk result (λ inboxes. inboxes ≡ letters.items) }
         ensures by_recipient { IfOk result (λ inboxes. IsNonDecreasingBy (λ l. l.to.0) inboxes) }
     {
-        let index = Index::of(alloc, &letters)?;
+        let index = index.renewed(&letters)?;
         Ok(Inboxes { letters, index })
     }
 

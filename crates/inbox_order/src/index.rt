@@ -1,4 +1,4 @@
-ghost use Rattle.std.specs.Prelude.{◌≡◌, ◌+◌, ◌<◌, ◌≤◌, length, slice_index_or, slice_range, IfOk};
+ghost use Rattle.std.specs.Prelude.{◌≡◌, ◌+◌, ◌<◌, ◌≤◌, [], length, slice_index_or, slice_range, IfOk};
 ghost use Rattle.std.specs.List.{filter};
 ghost use Rattle.std.specs.List.Sorted.{IsNonDecreasingBy};
 ghost use Rattle.actor_trait.specs.InboxOrder.{is_to};
@@ -18,13 +18,28 @@ pub struct Index {
 }
 
 impl Index {
-    /// The index of letters that stand by recipient. Err is want of memory.
-    pub fn of(alloc: Global, letters: &[Letter]) -> Result<Index, Memory>
+    /// The index of no letters. It takes no memory.
+    pub fn new(alloc: Global) -> Index
+        ensures recipients { result.recipients.items ≡ [] }
+        ensures starts { result.starts.items ≡ [] }
+    {
+        Index {
+            recipients: Vec::new(alloc),
+            starts: Vec::new(alloc),
+        }
+    }
+
+    /// The index of letters that stand by recipient, in the room of this one. Err is want of memory.
+    pub fn renewed(self, letters: &[Letter]) -> Result<Index, Memory>
         requires { IsNonDecreasingBy (λ l. l.to.0) letters.now }
         ensures { IfOk result (λ index. IsIndex letters.now index.recipients.items index.starts.items) }
     {
-        let mut recipients = Vec::new(alloc);
-        let mut starts = Vec::new(alloc);
+        let Index {
+            mut recipients,
+            mut starts,
+        } = self;
+        recipients.clear();
+        starts.clear();
         for (at, letter) in letters.iter().enumerate() {
             if !ends_with(&recipients, letter.to) {
                 recipients.push(letter.to)?;
@@ -34,8 +49,24 @@ impl Index {
         Ok(Index { recipients, starts })
     }
 
-    /// From where up to where the letters to one stand; from 0 to 0 where there are none.
-    pub fn range(&self, letters: &[Letter], to: ActorId) -> (usize, usize)
+    /// From where up to where the letters to one stand; from 0 to 0 where there are none. Whether it is
+    /// the recipient at the place `near` is tried first; any number is right.
+    pub fn range(&self, letters: &[Letter], near: usize, to: ActorId) -> (usize, usize)
+        requires { IsIndex letters.now self.now.recipients.items self.now.starts.items }
+        ensures ordered { result.0 ≤ result.1 }
+        ensures within { result.1 ≤ length letters.now }
+        ensures all { slice_range letters.now result.0 result.1 ≡ filter (is_to to) letters.now }
+    {
+        match self.recipients.get(near) {
+            Some(recipient) if recipient.0 == to.0 => {
+                (self.starts[near], self.end_of(near, letters.len()))
+            }
+            _ => self.search(letters, to),
+        }
+    }
+
+    /// The same, by a binary search.
+    fn search(&self, letters: &[Letter], to: ActorId) -> (usize, usize)
         requires { IsIndex letters.now self.now.recipients.items self.now.starts.items }
         ensures ordered { result.0 ≤ result.1 }
         ensures within { result.1 ≤ length letters.now }

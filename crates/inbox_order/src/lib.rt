@@ -9,6 +9,7 @@ mod index;
 mod keyed;
 mod names;
 mod order;
+mod spots;
 mod threads;
 
 pub use inboxes::Inboxes;

@@ -5,8 +5,8 @@ ghost use Rattle.sim_base.specs.declared.ids.ActorId.{ActorId};
 ghost use Rattle.actor_trait.specs.InboxOrder.{AreDistinct, in_order};
 ghost use Rattle.actor_trait.specs.declared.letter.Letter.{Letter};
 
-use crate::keyed::put_in_order_by;
 use crate::names::{keys_of, push_names};
+use crate::spots::{Desk, put_in_order_by};
 use actor_trait::{Letter, Precedence};
 use sim_base::{Items, Memory};
 use std::alloc::Global;
@@ -45,5 +45,5 @@ fn put_in_order(
     let mut names = Vec::new(alloc);
     push_names(&mut names, letters)?;
     let keys = keys_of(alloc, &names, precedence)?;
-    put_in_order_by(&mut Vec::new(alloc), letters, &keys, precedence)
+    put_in_order_by(&mut Desk::new(alloc), letters, &keys, precedence)
 }

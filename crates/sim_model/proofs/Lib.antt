@@ -13,6 +13,7 @@ pub mod Keeping
 pub mod Lists
 pub mod Merging
 pub mod Numbers
+pub mod Putting
 pub mod Reaching
 pub mod Retiring
 pub mod Rising

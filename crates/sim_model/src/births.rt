@@ -104,7 +104,7 @@ fn bear<A: Actor + Drop>(
 }
 
 /// The births of reports, taken out of them. The first has the number `next`, and there are `count`.
-fn take_all_births<A: Actor + Drop>(
+pub(crate) fn take_all_births<A: Actor + Drop>(
     alloc: Global,
     reports: &mut [Report<A>],
     next: u32,

@@ -3,7 +3,7 @@ ghost use Rattle.std.specs.List.{All, AllPairs, flat_map, fold};
 ghost use Rattle.sim_model.specs.Births.{member_born, next_after};
 ghost use Rattle.sim_model.specs.Moment.{agenda_after, ask, ask_of, close, close_with, next_id, put_state, rows_of, states_after};
 
-use crate::births::{add_members, bear_all, retired};
+use crate::births::{add_members, retired, take_all_births};
 use crate::due_set::DueSet;
 use crate::ids::empty;
 use crate::letters::{collect_letters, keep_living};
@@ -15,43 +15,43 @@ use std::alloc::{AllocError, Global};
 use std::mem;
 
 impl<A: Actor + Drop> WorldState<A> {
-    /// Closes a moment at which nobody shows a fault and `count` are born. Err is want of memory; the
-    /// world may then be anything.
+    /// Closes a moment at which nobody shows a fault and `count` are born. The reports are used up, and
+    /// their room stays. Err is want of memory; the world may then be anything.
     pub(crate) fn close(
         &mut self,
         alloc: Global,
-        reports: Items<Report<A>>,
+        reports: &mut Vec<Report<A>>,
         count: usize,
     ) -> Result<(), Memory>
         requires states { length self.old.states + 1 < 2 ^ 32 }
-        requires ascending { AllPairs (λ r q. r.id.0 < q.id.0) reports }
-        requires sends { All (λ r. length r.outcome.sends ≤ 1024) reports }
-        requires count { next_id self.old + count ≡ next_after (next_id self.old) reports }
-        requires numbers { next_after (next_id self.old) reports ≤ 2 ^ 32 }
-        ensures { OnOk result (self.new ≡ close A.meaning self.old reports) }
+        requires ascending { AllPairs (λ r q. r.id.0 < q.id.0) reports.old.items }
+        requires sends { All (λ r. length r.outcome.sends ≤ 1024) reports.old.items }
+        requires count { next_id self.old + count ≡ next_after (next_id self.old) reports.old.items }
+        requires numbers { next_after (next_id self.old) reports.old.items ≤ 2 ^ 32 }
+        ensures { OnOk result (self.new ≡ close A.meaning self.old reports.old.items) }
     {
         let next = self.next_id();
-        let (kept, born) = bear_all(alloc, reports, next, count)?;
-        self.close_with(alloc, kept, born)
+        let born = take_all_births(alloc, reports, next, count)?;
+        self.close_with(alloc, reports, born)
     }
 
     /// Closes a moment whose newborn were taken out of its reports.
     fn close_with(
         &mut self,
         alloc: Global,
-        kept: Items<Report<A>>,
-        born: Items<Newborn<A>>,
+        kept: &mut Vec<Report<A>>,
+        born: Vec<Newborn<A>>,
     ) -> Result<(), Memory>
-        requires ascending { AllPairs (λ r q. r.id.0 < q.id.0) kept }
-        requires sends { All (λ r. length r.outcome.sends ≤ 1024) kept }
-        ensures { OnOk result (self.new ≡ close_with A.meaning self.old kept born) }
+        requires ascending { AllPairs (λ r q. r.id.0 < q.id.0) kept.old.items }
+        requires sends { All (λ r. length r.outcome.sends ≤ 1024) kept.old.items }
+        ensures { OnOk result (self.new ≡ close_with A.meaning self.old kept.old.items born.items) }
     {
-        close_agenda(alloc, &mut self.agenda, kept.as_slice())?;
+        close_agenda(alloc, &mut self.agenda, kept)?;
         let mut letters = mem::replace(&mut self.letters, Items::new(alloc)).into_vec();
-        collect_letters(&mut letters, kept.as_slice(), born.as_slice())?;
-        self.newborn = Items::of(ids_of(alloc, born.as_slice())?);
+        collect_letters(&mut letters, kept, &born)?;
+        self.newborn = Items::of(ids_of(alloc, &born)?);
         empty(alloc, &mut self.scheduled);
-        close_cast(alloc, &mut self.cast, born.as_slice())?;
+        close_cast(alloc, &mut self.cast, &born)?;
         close_states(alloc, &mut self.states, kept, born)?;
         let dead = keep_living(&mut letters, self.states.as_slice());
         self.letters = Items::of(letters);
@@ -74,19 +74,21 @@ fn add_rows_of<A>(rows: &mut Vec<Row>, at: Moment, report: &Report<A>) -> Result
     Ok(())
 }
 
-/// The rows so far, and behind them those of a moment.
+/// Adds the rows of a moment.
 pub(crate) fn add_rows<A>(
-    rows: Items<Row>,
+    alloc: Global,
+    rows: &mut Items<Row>,
     at: Moment,
     reports: &[Report<A>],
-) -> Result<Items<Row>, Memory>
-    ensures { IfOk result (λ all. all ≡ rows ++ flat_map (rows_of at) reports.now) }
+) -> Result<(), Memory>
+    ensures { OnOk result (rows.new ≡ rows.old ++ flat_map (rows_of at) reports.now) }
 {
-    let mut all = rows.into_vec();
+    let mut all = mem::replace(rows, Items::new(alloc)).into_vec();
     for report in reports {
         add_rows_of(&mut all, at, report)?;
     }
-    Ok(Items::of(all))
+    *rows = Items::of(all);
+    Ok(())
 }
 
 fn ask(agenda: &mut DueSet, actor: ActorId, ticks: &[u64]) -> Result<(), Memory>
@@ -131,10 +133,12 @@ fn put_state<A: Drop>(states: &mut [Option<A>], report: Report<A>)
     }
 }
 
-fn put_all<A: Drop>(states: &mut Vec<Option<A>>, reports: Vec<Report<A>>)
-    ensures { states.new.items ≡ fold put_state states.old.items reports.items }
+/// Puts the states of those that acted in their places, the last first, and keeps the reports' room.
+fn put_all<A: Drop>(states: &mut Vec<Option<A>>, reports: &mut Vec<Report<A>>)
+    requires { AllPairs (λ r q. r.id.0 < q.id.0) reports.old.items }
+    ensures { states.new.items ≡ fold put_state states.old.items reports.old.items }
 {
-    for report in reports {
+    while let Some(report) = reports.pop() {
         put_state(states, report);
     }
 }
@@ -152,14 +156,15 @@ fn add_newborn<A: Drop>(states: &mut Vec<Option<A>>, born: Vec<Newborn<A>>) -> R
 fn close_states<A: Drop>(
     alloc: Global,
     states: &mut Items<Option<A>>,
-    reports: Items<Report<A>>,
-    born: Items<Newborn<A>>,
+    reports: &mut Vec<Report<A>>,
+    born: Vec<Newborn<A>>,
 ) -> Result<(), Memory>
-    ensures { OnOk result (states.new ≡ states_after states.old reports born) }
+    requires { AllPairs (λ r q. r.id.0 < q.id.0) reports.old.items }
+    ensures { OnOk result (states.new ≡ states_after states.old reports.old.items born.items) }
 {
     let mut all = mem::replace(states, Items::new(alloc)).into_vec();
-    put_all(&mut all, reports.into_vec());
-    add_newborn(&mut all, born.into_vec())?;
+    put_all(&mut all, reports);
+    add_newborn(&mut all, born)?;
     *states = Items::of(all);
     Ok(())
 }

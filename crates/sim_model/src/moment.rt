@@ -1,4 +1,4 @@
-ghost use Rattle.std.specs.Prelude.{◌≡◌, ◌+◌, ◌<◌, ◌^◌, ◌++◌, [], length, IfOk, OnOk};
+ghost use Rattle.std.specs.Prelude.{◌≡◌, ◌+◌, ◌<◌, ◌^◌, ◌++◌, [], length, OnOk};
 ghost use Rattle.std.specs.List.{cons_option};
 ghost use Rattle.sim_base.specs.declared.ids.ActorId.{ActorId};
 ghost use Rattle.actor_trait.specs.InboxOrder.{AreUrgent};
@@ -10,37 +10,41 @@ ghost use Rattle.sim_model.specs.Whole.{IsWhole};
 
 use crate::ids::{contains, merge};
 use crate::{Next, Report, WorldState};
-use actor_trait::{Actor, Context, Event, Precedence};
+use actor_trait::{Actor, Context, Event, Letter, Precedence};
 use inbox_order::Inboxes;
 use sim_base::{ActorId, Ending, Items, Memory, Moment};
 use std::alloc::Global;
 use std::mem;
 
 impl<A: Actor + Drop> WorldState<A> {
-    /// Enters a moment: who is scheduled is kept, and a tick that is entered leaves the agenda. Ok is the
-    /// inboxes of the moment. Err is want of memory; the agenda may then have lost some of the tick.
-    pub(crate) fn enter(&mut self, alloc: Global, at: Moment) -> Result<Inboxes, Memory>
+    /// Enters a moment: who is scheduled is kept, and a tick that is entered leaves the agenda. The inboxes
+    /// become those of the moment. Err is want of memory; the agenda may then have lost some of the tick.
+    pub(crate) fn enter(
+        &mut self,
+        alloc: Global,
+        at: Moment,
+        inboxes: &mut Inboxes,
+    ) -> Result<(), Memory>
         requires whole { IsWhole A.meaning self.old }
         requires agenda { RisesFrom at.tick self.old.agenda }
         ensures entered { OnOk result (self.new ≡ enter self.old at) }
-        ensures inboxes { IfOk result (λ inboxes. (id : ActorId) → inbox_of inboxes id ≡ inbox_at self.old at id) }
+        ensures inboxes { OnOk result ((id : ActorId) → inbox_of inboxes.new id ≡ inbox_at self.old at id) }
     {
-        let inboxes = self.inboxes(alloc, at)?;
-        self.schedule(alloc, at, &inboxes)?;
-        Ok(inboxes)
+        self.fill_inboxes(alloc, at, inboxes)?;
+        self.schedule(alloc, at, inboxes)
     }
 
-    /// The inboxes at a moment: at diasca 0 nobody has a letter.
-    fn inboxes(&self, alloc: Global, at: Moment) -> Result<Inboxes, Memory>
+    /// Makes the inboxes at a moment: at diasca 0 nobody has a letter.
+    fn fill_inboxes(&self, alloc: Global, at: Moment, inboxes: &mut Inboxes) -> Result<(), Memory>
         requires { AreUrgent self.now.parameters.urgent }
-        ensures { IfOk result (λ inboxes. (id : ActorId) → inbox_of inboxes id ≡ inbox_at self.now at id) }
+        ensures { OnOk result ((id : ActorId) → inbox_of inboxes.new id ≡ inbox_at self.now at id) }
     {
         let precedence = self.precedence(at);
         if at.diasca == 0 {
-            let none = Inboxes::of(alloc, &[], &precedence)?;
-            return Ok(none);
+            inboxes.renew(alloc, &[], &precedence)?;
+            return Ok(());
         }
-        Inboxes::of(alloc, self.letters.as_slice(), &precedence)
+        inboxes.renew(alloc, self.letters.as_slice(), &precedence)
     }
 
     /// What decides the order of letters that were sent at the diasca before.
@@ -96,40 +100,46 @@ impl<A: Actor + Drop> WorldState<A> {
         }
     }
 
-    /// What comes of each that is scheduled at the moment that is entered.
+    /// What comes of each that is scheduled at the moment that is entered, in place of the reports that
+    /// were there.
     pub(crate) fn reports(
         &self,
         alloc: Global,
         at: Moment,
         inboxes: &Inboxes,
-    ) -> Result<Items<Report<A>>, Memory>
+        all: &mut Vec<Report<A>>,
+    ) -> Result<(), Memory>
         requires newborn { Ascend self.now.newborn }
         requires inboxes { (id : ActorId) → inbox_of inboxes.now id ≡ inbox_at self.now at id }
-        ensures { IfOk result (λ all. all ≡ reports A.meaning self.now at) }
+        ensures { OnOk result (all.new.items ≡ reports A.meaning self.now at) }
     {
         let scheduled = self.scheduled.as_slice();
-        let mut all = Vec::with_capacity(alloc, scheduled.len())?;
+        all.clear();
+        all.reserve(scheduled.len())?;
+        let mut near = 0usize;
         for id in scheduled {
-            let found = self.report(alloc, at, inboxes, *id)?;
-            push_some(&mut all, found)?;
+            let inbox = inboxes.inbox_near(near, *id);
+            near = near.saturating_add(usize::from(!inbox.is_empty()));
+            self.report(alloc, at, inbox, *id, all)?;
         }
-        Ok(Items::of(all))
+        Ok(())
     }
 
-    /// What comes of the event of one.
+    /// Adds what comes of the event of one.
     fn report(
         &self,
         alloc: Global,
         at: Moment,
-        inboxes: &Inboxes,
+        inbox: &[Letter],
         id: ActorId,
-    ) -> Result<Option<Report<A>>, Memory>
+        all: &mut Vec<Report<A>>,
+    ) -> Result<(), Memory>
         requires newborn { Ascend self.now.newborn }
-        requires inbox { inbox_of inboxes.now id ≡ inbox_at self.now at id }
-        ensures { IfOk result (λ r. r ≡ report_of A.meaning self.now at id) }
+        requires inbox { inbox.now ≡ inbox_at self.now at id }
+        ensures { OnOk result (all.new.items ≡ all.old.items ++ cons_option (report_of A.meaning self.now at id) []) }
     {
         let Some(state) = self.state_of(id) else {
-            return Ok(None);
+            return Ok(());
         };
         let context = Context {
             seed: self.parameters.seed,
@@ -139,10 +149,11 @@ impl<A: Actor + Drop> WorldState<A> {
         let event = Event {
             first: (at.tick == 0 && at.diasca == 0) || contains(self.newborn.as_slice(), id),
             spontaneous: !(at.tick == 0) && at.diasca == 0,
-            inbox: inboxes.inbox(id),
+            inbox,
         };
         let outcome = state.act(alloc, &context, &event)?;
-        Ok(Some(Report { id, outcome }))
+        all.push(Report { id, outcome })?;
+        Ok(())
     }
 
     /// What comes after a moment that closed: the next diasca where somebody is called there, else the
@@ -195,15 +206,6 @@ fn add_living<A>(ids: &mut Vec<ActorId>, states: &[Option<A>]) -> Result<(), Mem
             ids.push(ActorId(next))?;
         }
         next += 1;
-    }
-    Ok(())
-}
-
-fn push_some<T: Drop>(all: &mut Vec<T>, item: Option<T>) -> Result<(), Memory>
-    ensures { OnOk result (all.new.items ≡ all.old.items ++ cons_option item []) }
-{
-    if let Some(item) = item {
-        all.push(item)?;
     }
     Ok(())
 }

@@ -9,8 +9,9 @@ use crate::births::count_births;
 use crate::cast::opening_cast;
 use crate::closing::add_rows;
 use crate::due_set::DueSet;
-use crate::{Ended, Fault, Member, Next, Report, Setup, Stage, Start, Underway, WorldState};
+use crate::{Fault, Member, Next, Report, Setup, Start, Underway, WorldState};
 use actor_trait::Actor;
+use inbox_order::Inboxes;
 use sim_base::{Ending, Items, Memory, Moment, Row};
 use std::alloc::Global;
 
@@ -62,79 +63,65 @@ fn opening<A: Actor + Drop>(alloc: Global, setup: &Setup<A>) -> Result<Underway<
     })
 }
 
-fn follow<A: Drop>(last: Moment, world: WorldState<A>, rows: Items<Row>, next: Next) -> Stage<A>
-    ensures { result ≡ follow last world rows next }
-{
-    match next {
-        Next::Enters(next) => Stage::Going(Underway {
-            last: Some(last),
-            next,
-            world,
-            rows,
-        }),
-        Next::Ends(ending) => Stage::Over(Ended {
-            last,
-            ending,
-            world,
-            rows,
-        }),
-    }
+/// Lists whose room each moment uses again.
+#[derive(Drop)]
+struct Room<A> {
+    inboxes: Inboxes,
+    reports: Vec<Report<A>>,
 }
 
+/// Closes a moment that is entered, unless somebody shows a fault. The answer is what comes next.
 fn judge<A: Actor + Drop>(
     alloc: Global,
     at: Moment,
-    entered: WorldState<A>,
-    rows: Items<Row>,
-    reports: Items<Report<A>>,
-) -> Result<Stage<A>, Memory>
-    requires whole { IsWhole A.meaning entered }
-    requires diasca { at.diasca < entered.parameters.diasca_limit }
-    requires ascending { AllPairs (λ r q. r.id.0 < q.id.0) reports }
-    ensures { IfOk result (λ p. p ≡ judge A.meaning at entered rows reports (fault_of_moment A.meaning entered at reports)) }
+    world: &mut WorldState<A>,
+    rows: &mut Items<Row>,
+    reports: &mut Vec<Report<A>>,
+) -> Result<Next, Memory>
+    requires whole { IsWhole A.meaning world.old }
+    requires diasca { at.diasca < world.old.parameters.diasca_limit }
+    requires ascending { AllPairs (λ r q. r.id.0 < q.id.0) reports.old.items }
+    ensures { IfOk result (λ next. follow at world.new rows.new next ≡ judge A.meaning at world.old rows.old reports.old.items
+        (fault_of_moment A.meaning world.old at reports.old.items)) }
 {
-    let max_actors = entered.parameters.max_actors;
-    let count = match count_births(reports.as_slice(), max_actors, entered.next_id(), at) {
+    let max_actors = world.parameters.max_actors;
+    let count = match count_births(reports, max_actors, world.next_id(), at) {
         Ok(count) => count,
-        Err(Fault { actor, code }) => {
-            let ending = Ending::Fault { actor, code };
-            return Ok(follow(at, entered, rows, Next::Ends(ending)));
-        }
+        Err(Fault { actor, code }) => return Ok(Next::Ends(Ending::Fault { actor, code })),
     };
-    let rows = add_rows(rows, at, reports.as_slice())?;
-    let mut world = entered;
+    add_rows(alloc, rows, at, reports)?;
     world.close(alloc, reports, count)?;
-    let next = world.what_comes_next(at);
-    Ok(follow(at, world, rows, next))
+    Ok(world.what_comes_next(at))
 }
 
+/// The next moment of a run, entered and closed. The answer is what comes after it.
 #[tactic(auto, unfolding(crate::specs::Run::step))]
-fn step<A: Actor + Drop>(alloc: Global, underway: Underway<A>) -> Result<Stage<A>, Memory>
-    requires whole { IsWhole A.meaning underway.world }
-    requires diasca { underway.next.diasca < underway.world.parameters.diasca_limit }
-    requires agenda { RisesFrom underway.next.tick underway.world.agenda }
-    ensures { IfOk result (λ p. p ≡ step A.meaning underway) }
+fn step<A: Actor + Drop>(
+    alloc: Global,
+    underway: &mut Underway<A>,
+    room: &mut Room<A>,
+) -> Result<Next, Memory>
+    requires whole { IsWhole A.meaning underway.old.world }
+    requires diasca { underway.old.next.diasca < underway.old.world.parameters.diasca_limit }
+    requires agenda { RisesFrom underway.old.next.tick underway.old.world.agenda }
+    ensures { IfOk result (λ next. follow underway.old.next underway.new.world underway.new.rows next ≡ step A.meaning underway.old) }
+{
+    let at = underway.next;
+    let world = &mut underway.world;
+    world.enter(alloc, at, &mut room.inboxes)?;
+    world.reports(alloc, at, &room.inboxes, &mut room.reports)?;
+    judge(alloc, at, world, &mut underway.rows, &mut room.reports)
+}
+
+fn give_results<A: Drop>(last: Moment, ending: Ending, underway: Underway<A>) -> Results
+    ensures { result ≡ results_of (record { last = last; ending = ending; world = underway.world; rows = underway.rows }) }
 {
     let Underway {
         last: _,
-        next: at,
-        mut world,
-        rows,
-    } = underway;
-    let inboxes = world.enter(alloc, at)?;
-    let reports = world.reports(alloc, at, &inboxes)?;
-    judge(alloc, at, world, rows, reports)
-}
-
-fn give_results<A: Drop>(ended: Ended<A>) -> Results
-    ensures { result ≡ results_of ended }
-{
-    let Ended {
-        last,
-        ending,
+        next: _,
         world,
         rows,
-    } = ended;
+    } = underway;
     Results {
         rows,
         cast: world.cast,
@@ -150,10 +137,18 @@ pub fn plain_run<A: Actor + Drop>(alloc: Global, setup: &Setup<A>) -> Result<Res
 {
     let _last = setup.last_tick;
     let mut underway = opening(alloc, setup)?;
+    let mut room = Room {
+        inboxes: Inboxes::new(alloc),
+        reports: Vec::new(alloc),
+    };
     loop {
-        match step(alloc, underway)? {
-            Stage::Going(next) => underway = next,
-            Stage::Over(ended) => return Ok(give_results(ended)),
+        let at = underway.next;
+        match step(alloc, &mut underway, &mut room)? {
+            Next::Enters(next) => {
+                underway.last = Some(at);
+                underway.next = next;
+            }
+            Next::Ends(ending) => return Ok(give_results(at, ending, underway)),
         }
     }
 }

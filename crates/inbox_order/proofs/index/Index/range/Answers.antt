@@ -1,18 +1,17 @@
-use Rattle.inbox_order.proofs.Finding.{not_found, range_some, run_at, searchable}
+use Rattle.inbox_order.proofs.Finding.{range_some, run_near}
 use Rattle.inbox_order.proofs.index.Index.range.Goals as goal
 
-pub returns-in-Ok-clause-ordered : goal.returns-in-Ok-clause-ordered
-returns-in-Ok-clause-ordered c =
-    range_some _ _ _ _ (run_at _ _ _ _ _ _ _ _ c.requires c.deref.ensures.value c.in-Ok.ensures.bound c.in-Ok.ensures.ok c.index.ensures c.end_of.ensures)
+pub returns-in-Some-clause-ordered : goal.returns-in-Some-clause-ordered
+returns-in-Some-clause-ordered c =
+    range_some _ _ _ _ (run_near _ _ _ _ _ _ _ _ _ c.requires c.deref.ensures.value c.in-Some.ensures.lookup.3.0 c.in-Some.ensures.lookup.1
+    c.if-recipient-to.true c.index.ensures c.end_of.ensures)
 
-pub returns-in-Ok-clause-within : goal.returns-in-Ok-clause-within
-returns-in-Ok-clause-within c =
-    (run_at _ _ _ _ _ _ _ _ c.requires c.deref.ensures.value c.in-Ok.ensures.bound c.in-Ok.ensures.ok c.index.ensures c.end_of.ensures).within
+pub returns-in-Some-clause-within : goal.returns-in-Some-clause-within
+returns-in-Some-clause-within c =
+    (run_near _ _ _ _ _ _ _ _ _ c.requires c.deref.ensures.value c.in-Some.ensures.lookup.3.0 c.in-Some.ensures.lookup.1
+    c.if-recipient-to.true c.index.ensures c.end_of.ensures).within
 
-pub returns-in-Ok-clause-all : goal.returns-in-Ok-clause-all
-returns-in-Ok-clause-all c =
-    (run_at _ _ _ _ _ _ _ _ c.requires c.deref.ensures.value c.in-Ok.ensures.bound c.in-Ok.ensures.ok c.index.ensures c.end_of.ensures).all
-
-pub returns-in-Err-clause-all : goal.returns-in-Err-clause-all
-returns-in-Err-clause-all c =
-    not_found _ _ _ _ c.args.to c.requires (rw c.deref.ensures.value at c.in-Err.ensures.position (searchable _ _ _ c.args.to c.requires))
+pub returns-in-Some-clause-all : goal.returns-in-Some-clause-all
+returns-in-Some-clause-all c =
+    (run_near _ _ _ _ _ _ _ _ _ c.requires c.deref.ensures.value c.in-Some.ensures.lookup.3.0 c.in-Some.ensures.lookup.1
+    c.if-recipient-to.true c.index.ensures c.end_of.ensures).all

@@ -1,7 +1,7 @@
 use Rattle.std.proofs.Common.{◌∙◌, rules, sym}
 use Rattle.inbox_order.proofs.Indexing.{index_known, index_new}
-use Rattle.inbox_order.proofs.index.Index.of.Goals as goal
-use Rattle.inbox_order.proofs.index.Index.of.Goals.{else-not-ends_with, then-not-ends_with+in_ok-push+in_ok-push-2}
+use Rattle.inbox_order.proofs.index.Index.renewed.Goals as goal
+use Rattle.inbox_order.proofs.index.Index.renewed.Goals.{else-not-ends_with, then-not-ends_with+in_ok-push+in_ok-push-2}
 
 pub loop-at-preserved : goal.loop-at-preserved
 loop-at-preserved c =

@@ -151,6 +151,14 @@ impl Tree {
             .map(|parent| NodeId(*parent))
     }
 
+    /// The parent of each node but the root, by the number of the node.
+    pub fn parents(&self) -> &[u32]
+        ensures parents { result.now ≡ self.now.parents }
+        ensures tree { IsTree self.now }
+    {
+        self.parents.as_slice()
+    }
+
     /// The nodes whose parent this is, in ascending order without gaps; none at a leaf.
     pub fn children(&self, node: NodeId) -> &[NodeId]
         requires { node.0 < node_count self.now }

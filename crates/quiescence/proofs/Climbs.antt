@@ -2,7 +2,7 @@
 use Rattle.std.proofs.Common.{◌≡◌, ◌≢◌, ℕ, suc, ◌-◌, ◌<◌, true, false, refl, sym, ap, ◌∙◌, subst, arith}
 use mathlib.Core.Logic.{dite}
 use native.Mathlib.Decide.{ℕ_discrete}
-use Rattle.quiet_core.specs.Account.{Shape, root, Account, has_duty}
+use Rattle.quiet_core.specs.Account.{Account, has_duty}
 use Rattle.quiet_core.proofs.Sums.{put_here, put_else}
 use Rattle.quiescence.specs.Answers.{IsHigher, NoDuty, OnlyDuty, holding, relieved, way_up}
 use Rattle.quiescence.specs.declared.answers.After.{After}

@@ -57,7 +57,8 @@ module _ (r : RoundId) (t : Shape) (words : List ℕ) (table : TableId) (me : Me
     all_posted = posted_sum t a words e whole;
   }
 
-  pub unfinished : (u : Unfinished) → 1 ≤ get_or words (root t) 0 → u.unreported ≡ scheduled_in t - reported → u.unacked ≡ sum (posted_words t words) - acked → u.unclimbed ≡ sum (inner_words t words) - working_in t words → IsUnfinished r.shape a u
+  pub unfinished : (u : Unfinished) → 1 ≤ get_or words (root t) 0 → u.unreported ≡ scheduled_in t - reported
+      → u.unacked ≡ sum (posted_words t words) - acked → u.unclimbed ≡ sum (inner_words t words) - working_in t words → IsUnfinished r.shape a u
   unfinished u o ex ey ez =
       let i = reported_is in let j = acked_is in let l = reported_le in let k = acked_le in let s = posted_sum t a words e whole in let w = inner_sum t a words e whole in
       let x : u.unreported + reported_in t a ≡ scheduled_in t = omega arith in

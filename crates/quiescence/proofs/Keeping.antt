@@ -12,10 +12,10 @@ use Rattle.quiet_core.specs.Opening.{Opening}
 use Rattle.quiet_core.proofs.Opens.{opening_balance}
 use Rattle.quiet_core.proofs.Acks.{acked_le}
 use Rattle.quiet_core.proofs.Untouched.{by_test}
-use Rattle.quiet_core.proofs.Settle.{settled_field}
+use Rattle.quiet_core.proofs.Reached.{reached_field}
 use Rattle.atomic_table.specs.Seated.{TableId}
 use Rattle.quiescence.specs.Rule.{RoundId, Holding, View, Stands, Did, Plays}
-use Rattle.quiescence.specs.Learnt.{Learnt, Apart}
+use Rattle.quiescence.specs.Learnt.{Learnt, Disjoint}
 use Rattle.quiescence.specs.Counts.{done_at, reported_in, acked_in}
 use Rattle.quiescence.specs.Hands.{IsHand}
 use Rattle.quiescence.proofs.Stands.{stands_after, kept_stands, new_stands, less_stands, one_stands}
@@ -34,11 +34,11 @@ weight_after : (t : Shape) (d : Deed) (x : ℕ) (a : Account) → (after t d x a
 weight_after t (deed.Claim m) x a = by_test (λ b. b.weight ≡ a.weight) (ltb x (scheduled t m)) (put_mark a m x fresh) (record a { exhausted = put false a.exhausted m true }) (λ _. refl) (λ _. refl)
 weight_after t (deed.Raise m i n) x a = refl
 weight_after t (deed.Post m i to n) x a = refl
-weight_after t (deed.Done m i) x a = settled_field (λ (b : Account). b.weight) t m (x - 1) (put_mark a m i reported) refl refl
+weight_after t (deed.Done m i) x a = reached_field (λ (b : Account). b.weight) t m (x - 1) (put_mark a m i reported) refl refl
 weight_after t (deed.Collect n) x a = by_test (λ b. b.weight ≡ a.weight) (eqb x 0) (record a { collected = put 0 a.collected n 1 }) a (λ _. refl) (λ _. refl)
 weight_after t (deed.Look m n) x a = refl
-weight_after t (deed.Ack m n k) x a = settled_field (λ (b : Account). b.weight) t m (x - k) (record a { acked = put_pair a.acked m n (acks a m n + k) }) refl refl
-weight_after t (deed.Climb c) x a = settled_field (λ (b : Account). b.weight) t (parent t c) (x - 1) (record a { duties = put false a.duties c false }) refl refl
+weight_after t (deed.Ack m n k) x a = reached_field (λ (b : Account). b.weight) t m (x - k) (record a { acked = put_pair a.acked m n (acks a m n + k) }) refl refl
+weight_after t (deed.Climb c) x a = reached_field (λ (b : Account). b.weight) t (parent t c) (x - 1) (record a { duties = put false a.duties c false }) refl refl
 
 -- after a deed
 pub hand_after : (t : Shape) (d : Deed) (me me' : Me (Unit {0}) View) (x r k r' k' : ℕ) → IsHand t me r k → May t d me.0.account → Plays t d me x me' → r' ≡ r + reports d → k' ≡ k + acknowledges d → IsHand t me' r' k'
@@ -122,11 +122,11 @@ module _ (r : RoundId) (table table' : TableId) (me me' new : Me (Unit {0}) View
   joint_is : new.0.account ≡ united me.0.account me'.0.account
   joint_is = ap (λ (m : Me (Unit {0}) View). m.0.account) is
 
-  were_apart : Apart r.shape me.0.account me'.0.account
+  were_apart : Disjoint r.shape me.0.account me'.0.account
   were_apart = apart r.shape me.0.account me'.0.account (subst (λ (a : Account). Stands r.shape a) joint_is s)
 
-  pub met_apart : Apart r.shape v.account v'.account
-  met_apart = subst (λ (z : Account × Account). Apart r.shape z.0 z.1) (λ i. ((seen i).account, (seen' i).account)) were_apart
+  pub met_apart : Disjoint r.shape v.account v'.account
+  met_apart = subst (λ (z : Account × Account). Disjoint r.shape z.0 z.1) (λ i. ((seen i).account, (seen' i).account)) were_apart
 
   pub joint_reported : reported + reported' ≡ reported_in r.shape new.0.account
   joint_reported = let e = h.reported_is ∙ ap (λ (t : Shape). reported_in t me.0.account) same in let e' = h'.reported_is ∙ ap (λ (t : Shape). reported_in t me'.0.account) same' in

@@ -5,32 +5,32 @@ use native.Mathlib.Decide.{dec_lt}
 use Rattle.quiet_core.specs.declared.deed.Deed.TheVariants as deed
 use Rattle.quiet_core.specs.Rows.{put, bit}
 use Rattle.quiet_core.specs.Balance.{Sized}
-use Rattle.quiet_core.specs.Account.{Shape, managers, scheduled, root, parent, Mark, free, fresh, Account, mark, knows, posts, acks, collects, has_duty, opened, owing}
-use Rattle.quiet_core.specs.Step.{word, issued_at, put_mark, settled, May, meet, united}
+use Rattle.quiet_core.specs.Account.{Shape, managers, scheduled, root, parent, Mark, free, fresh, Account, mark, knows, posts, acks, collects, has_duty, entered, opened, owing}
+use Rattle.quiet_core.specs.Step.{word, issued_at, put_mark, reached, May, meet, united}
 use Rattle.quiet_core.proofs.Sums.{le_sum, le_below, pair_here, blend_at, put_here}
 use Rattle.quiet_core.proofs.Acks.{one_left, open_in}
 use Rattle.quiet_core.proofs.CollectKeeps.{collect_new, look_more}
 use Rattle.quiet_core.proofs.AckKeeps.{enough}
 use Rattle.quiet_core.proofs.ClimbKeeps.{some_kids}
-use Rattle.quiet_core.proofs.Parting.{meet_free}
-use Rattle.quiet_core.proofs.Meeting.{mark_united, marks_apart, collectors_apart}
+use Rattle.quiet_core.proofs.Clearing.{meet_free, outside}
+use Rattle.quiet_core.proofs.Meeting.{mark_united, meet_apart, marks_apart, collectors_apart}
 use Rattle.quiet_core.proofs.Quieted.{root_quiet}
 use Rattle.quiet_core.proofs.Whole.{entered_at_most, whole_met, whole_knows, whole_collects, sum_is}
 use Rattle.quiet_core.proofs.Blank.{posts_none, acks_none}
 use Rattle.quiet_core.proofs.Untouched.{ge_ltb}
-use Rattle.quiet_core.proofs.Settle.{settled_not, settled_duty, settled_root}
+use Rattle.quiet_core.proofs.Reached.{reached_not, reached_duty, reached_root}
 use Rattle.quiescence.specs.declared.answers.After.{After}
 use Rattle.quiescence.specs.declared.answers.After.TheVariants.{Left, Duty, Root}
 use Rattle.quiescence.specs.Answers.{IsAfter, IsHigher, Holds, holding}
 use Rattle.quiescence.specs.Rule.{Stands, Did}
-use Rattle.quiescence.specs.Learnt.{Idle, Whole, Learnt, Apart}
+use Rattle.quiescence.specs.Learnt.{Idle, Whole, Learnt, Disjoint}
 use Rattle.quiescence.proofs.Reports.{was_free}
 
 module _ (t : Shape) (a : Account) (s : Stands t a) where
   idle : a.at_root ≡ true → Idle t a
   idle e = let q = root_quiet t s.state s.hand a s.kept s.sits e in record {
-    none_open = λ m i lm. q.none_open m i lm s.hand a s.sits;
-    none_owed = λ m i lm. q.none_owed m i lm s.hand a s.sits;
+    none_open = λ m i. q.none_open m i s.hand a s.sits;
+    none_owed = λ m i. q.none_owed m i s.hand a s.sits;
     no_duty = λ c. q.no_duty c s.hand a s.sits;
   }
 
@@ -39,7 +39,7 @@ module _ (t : Shape) (a : Account) (s : Stands t a) where
     knows_posted = whole_knows t s.state s.hand a s.kept s.sits w;
     all_entered = whole_met t s.state s.hand a s.kept s.sits w;
     all_acked = λ e m n lm ln. (let q = root_quiet t s.state s.hand a s.kept s.sits e in
-        sym (sum_is t s.state s.hand a s.kept s.sits w (λ (c : Account). acks c m n) (acks_none t m n)) ∙ q.all_acked m n lm ln ∙ sum_is t s.state s.hand a s.kept s.sits w (λ (c : Account). posts c m n) (posts_none t m n));
+        sym (sum_is t s.state s.hand a s.kept s.sits w (λ (c : Account). acks c m n) (acks_none t m n)) ∙ q.all_acked m n ∙ sum_is t s.state s.hand a s.kept s.sits w (λ (c : Account). posts c m n) (posts_none t m n));
   }
 
   -- of a manager at which nobody is scheduled there are no letters
@@ -85,17 +85,22 @@ module _ (t : Shape) (a c : Account) (s : Stands t (united a c)) where
   both_marks : (m i : ℕ) → m < managers t → (mark a m i ≡ free) ⊎ (mark c m i ≡ free)
   both_marks = marks_apart t s.state s.hand a c s.kept s.sits
 
+  either_free : (m i : ℕ) → (mark a m i ≡ free) ⊎ (mark c m i ≡ free)
+  either_free m i = dite (dec_lt m (managers t)) (both_marks m i)
+      (λ far. meet_apart (mark a m i) (mark c m i)
+      (let e = ap entered (sym (mark_united a c m i) ∙ outside t (united a c) m i (s.kept.clear s.hand (united a c) s.sits) far) in omega arith))
+
   both_idle : (a.at_root ≡ true) ⊎ (c.at_root ≡ true) → Idle t a × Idle t c
   both_idle h =
       let i = idle t (united a c) s (or_either a.at_root c.at_root h) in
-      let o : (m i : ℕ) → m < managers t → (opened (mark a m i) ≡ 0) × (opened (mark c m i) ≡ 0) = λ m n lm. meet_opened (mark a m n) (mark c m n) (both_marks m n lm) (ap opened (sym (mark_united a c m n)) ∙ i.none_open m n lm) in
-      let w : (m i : ℕ) → m < managers t → (owing (mark a m i) ≡ 0) × (owing (mark c m i) ≡ 0) = λ m n lm. meet_owing (mark a m n) (mark c m n) (both_marks m n lm) (ap owing (sym (mark_united a c m n)) ∙ i.none_owed m n lm) in
+      let o : (m i : ℕ) → (opened (mark a m i) ≡ 0) × (opened (mark c m i) ≡ 0) = λ m n. meet_opened (mark a m n) (mark c m n) (either_free m n) (ap opened (sym (mark_united a c m n)) ∙ i.none_open m n) in
+      let w : (m i : ℕ) → (owing (mark a m i) ≡ 0) × (owing (mark c m i) ≡ 0) = λ m n. meet_owing (mark a m n) (mark c m n) (either_free m n) (ap owing (sym (mark_united a c m n)) ∙ i.none_owed m n) in
       let d : (k : ℕ) → (has_duty a k ≡ false) × (has_duty c k ≡ false) = λ k. or_neither (has_duty a k) (has_duty c k) (sym (blend_at ◌||◌ false (λ y. refl) or_none a.duties c.duties k) ∙ i.no_duty k) in (
-        record { none_open = λ m n lm. (o m n lm).0; none_owed = λ m n lm. (w m n lm).0; no_duty = λ k. (d k).0 },
-        record { none_open = λ m n lm. (o m n lm).1; none_owed = λ m n lm. (w m n lm).1; no_duty = λ k. (d k).1 },
+        record { none_open = λ m n. (o m n).0; none_owed = λ m n. (w m n).0; no_duty = λ k. (d k).0 },
+        record { none_open = λ m n. (o m n).1; none_owed = λ m n. (w m n).1; no_duty = λ k. (d k).1 },
       )
 
-  pub apart : Apart t a c
+  pub apart : Disjoint t a c
   apart = record { marks = both_marks; collectors = collectors_apart t s.state s.hand a c s.kept s.sits; idle = both_idle }
 
 module _ (t : Shape) (a a' : Account) (x : ℕ) where
@@ -153,10 +158,10 @@ module _ (t : Shape) (a a' : Account) (x : ℕ) where
   climb_found c may d = let s = d.before in let f = d.found in let l = some_kids t s.state s.hand a c s.kept s.sits may in omega arith
 
 -- the account after a deed that took from its word, by its answer
-pub settled_is : (t : Shape) (j x : ℕ) (b : Account) (r : After) → IsAfter t j x r → settled t j x b ≡ holding r b
-settled_is t j x b (Left y) e = let l = e.1 in settled_not t j x b (λ z. omega arith)
-settled_is t j x b (Duty k) e = settled_duty t j x b e.1 (let l = e.2 in λ q. omega arith) ∙ ap (λ (n : ℕ). record b { duties = put false b.duties n true }) (sym e.0)
-settled_is t j x b Root e = settled_root t j x b e.0 e.1
+pub reached_is : (t : Shape) (j x : ℕ) (b : Account) (r : After) → IsAfter t j x r → reached t j x b ≡ holding r b
+reached_is t j x b (Left y) e = let l = e.1 in reached_not t j x b (λ z. omega arith)
+reached_is t j x b (Duty k) e = reached_duty t j x b e.1 (let l = e.2 in λ q. omega arith) ∙ ap (λ (n : ℕ). record b { duties = put false b.duties n true }) (sym e.0)
+reached_is t j x b Root e = reached_root t j x b e.0 e.1
 
 pub holds_it : (t : Shape) (j x : ℕ) (b a : Account) (r : After) → IsAfter t j x r → a ≡ holding r b → Holds t r a
 holds_it t j x b a (Left y) e is = tt

@@ -191,4 +191,9 @@ module _ (t : Shape) (a : Account) (words : List ℕ) (e : Ends t a words) (whol
       ∙ alive_is t a words e whole
 
   pub inner_fits : sum (inner_words t words) ≤ 60
-  inner_fits = let i = inner_sum in let z = e.kept.sized.few_nodes in let w = done_most (λ c. min (get_or words c 0) 1) (root t) (λ c. omega arith) in let d = done_most (λ c. bit (has_duty a c)) (root t) (λ c. bit_few (has_duty a c)) in omega arith
+  inner_fits =
+      let i = inner_sum in
+      let z = e.kept.sized.few_nodes in
+      let w = done_most (λ c. min (get_or words c 0) 1) (root t) (λ c. omega arith) in
+      let d = done_most (λ c. bit (has_duty a c)) (root t) (λ c. bit_few (has_duty a c)) in
+      omega arith

@@ -26,7 +26,11 @@ module _ (g h h' : Holding) (m n x : ℕ) (w : LookedFrom g h m n) (of : h'.roun
   grown j k = let r = grows h.account.known m n x more.0 j k in let e : knows h'.account j k ≡ at_pair (put_pair h.account.known m n x) j k = ap (λ l. at_pair l j k) known in omega arith
 
   here : posts g.account m n ≤ knows h'.account m n
-  here = let e : knows h'.account m n ≡ x = ap (λ l. at_pair l m n) known ∙ pair_here h.account.known m n x in let f : posts h.account m n ≡ posts g.account m n = ap (λ (r : Holding). posts r.account m n) w.knows_more.same in let q = more.1 in omega arith
+  here =
+      let e : knows h'.account m n ≡ x = ap (λ l. at_pair l m n) known ∙ pair_here h.account.known m n x in
+      let f : posts h.account m n ≡ posts g.account m n = ap (λ (r : Holding). posts r.account m n) w.knows_more.same in
+      let q = more.1 in
+      omega arith
 
   pub looked_more : LookedFrom g h' m (n + 1)
   looked_more = record {

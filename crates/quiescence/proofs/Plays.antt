@@ -10,7 +10,7 @@ use Rattle.atomic_table.proofs.Lists.{set_again}
 use Rattle.quiet_core.specs.Account.{Shape, managers, root, Account, blank}
 use Rattle.quiet_core.specs.declared.deed.Deed.{Deed}
 use Rattle.quiet_core.specs.declared.deed.Deed.TheVariants as deed
-use Rattle.quiet_core.specs.Step.{State, word, place, up, down, becomes, stays, turn, turned, after, May, word_count, kept_part, new_part, united}
+use Rattle.quiet_core.specs.Step.{State, word, place, up, down, becomes, stays, change, changed, after, May, word_count, kept_part, new_part, united}
 use Rattle.quiet_core.specs.Balance.{Balance, Sized}
 use Rattle.quiet_core.proofs.Keeps as core
 use Rattle.quiet_core.proofs.Sums.{pair_below, set_else}
@@ -44,28 +44,32 @@ accounts_set : (t : Shape) (ws : List ℕ) (vs : List View) (i : ℕ) (v : View)
 accounts_set t ws vs i v w = subst (λ (l : List Account). Balance t record { words = ws; accounts = l }) (sym (map-set account_of vs i v)) w
 
 module _ (t : Shape) (d : Deed) (slots id : ℕ) (me : Me (Unit {0}) View) (may : May t d me.0.account) where
-  plays : (f : ℕ → ℕ) → ((s : State) → Balance t s → get_elem? s.accounts id ≡ some me.0.account → word s (place t d) < 2 ^ 64 → f (word s (place t d)) ≡ turned (turn d) (word s (place t d)))
+  plays : (f : ℕ → ℕ) → ((s : State) → Balance t s → get_elem? s.accounts id ≡ some me.0.account → word s (place t d) < 2 ^ 64 → f (word s (place t d)) ≡ changed (change d) (word s (place t d)))
       → Allows (Kept t) slots id me (place t d) f (Plays t d me)
   plays f same s kept _ at small = let x : ℕ = word (state_of s) (place t d) in let sits = at_account s.views id me.0 at in (
     record me.0 { account = after t d x me.0.account },
     keeps,
     tt,
     accounts_set t (set s.words (place t d) (f x)) s.views id (record me.0 { account = after t d x me.0.account })
-        (subst (λ (n : ℕ). Balance t record { words = set s.words (place t d) n; accounts = set (map account_of s.views) id (after t d x me.0.account) }) (sym (same (state_of s) kept sits small)) (core.keeps t (state_of s) id me.0.account kept sits d may)),
+        (subst (λ (n : ℕ). Balance t record {
+          words = set s.words (place t d) n;
+          accounts = set (map account_of s.views) id (after t d x me.0.account);
+        }) (sym (same (state_of s) kept sits small))
+        (core.keeps t (state_of s) id me.0.account kept sits d may)),
     (refl, refl, record { before = record { state = state_of s; hand = id; kept = kept; sits = sits }; found = refl; account = refl }),
   )
 
-  pub adds : (k : ℕ) → turn d ≡ up k → Allows (Kept t) slots id me (place t d) (λ n. (n + k) % 2 ^ 64) (Plays t d me)
+  pub adds : (k : ℕ) → change d ≡ up k → Allows (Kept t) slots id me (place t d) (λ n. (n + k) % 2 ^ 64) (Plays t d me)
   adds k is = plays (λ n. (n + k) % 2 ^ 64) (λ s kept at small. core.up_is t s id me.0.account kept at d k may is)
 
-  pub subs : (k : ℕ) → k < 2 ^ 64 → turn d ≡ down k → Allows (Kept t) slots id me (place t d) (λ n. (n + (2 ^ 64 - k)) % 2 ^ 64) (Plays t d me)
+  pub subs : (k : ℕ) → k < 2 ^ 64 → change d ≡ down k → Allows (Kept t) slots id me (place t d) (λ n. (n + (2 ^ 64 - k)) % 2 ^ 64) (Plays t d me)
   subs k fits is = plays (λ n. (n + (2 ^ 64 - k)) % 2 ^ 64) (λ s kept at small. core.down_is t s id me.0.account kept at d k may is small fits)
 
-  pub swaps : (v : ℕ) → turn d ≡ becomes v → Allows (Kept t) slots id me (place t d) (λ _. v) (Plays t d me)
-  swaps v is = plays (λ _. v) (λ s kept at small. sym (ap (λ u. turned u (word s (place t d))) is))
+  pub swaps : (v : ℕ) → change d ≡ becomes v → Allows (Kept t) slots id me (place t d) (λ _. v) (Plays t d me)
+  swaps v is = plays (λ _. v) (λ s kept at small. sym (ap (λ u. changed u (word s (place t d))) is))
 
-  pub loads : turn d ≡ stays → Allows (Kept t) slots id me (place t d) (λ n. n) (Plays t d me)
-  loads is = plays (λ n. n) (λ s kept at small. sym (ap (λ u. turned u (word s (place t d))) is))
+  pub loads : change d ≡ stays → Allows (Kept t) slots id me (place t d) (λ n. n) (Plays t d me)
+  loads is = plays (λ n. n) (λ s kept at small. sym (ap (λ u. changed u (word s (place t d))) is))
 
 -- a load of word 0 changes nothing, and shows that the account stands
 pub sees : (t : Shape) (slots id : ℕ) (me : Me (Unit {0}) View) → me.0.shape ≡ t → Allows (Kept t) slots id me 0 (λ n. n) (λ _. SeesIt me.0.shape me)
@@ -79,7 +83,9 @@ sees t slots id me is s kept _ at small = (
 
 module _ (t : Shape) (id : ℕ) (v : View) (two : 2 ≤ v.account.weight) where
   -- a view that becomes one, and a new one behind all
-  pair_of : (left right : View) (ws : List ℕ) (vs : List View) → Balance t record { words = ws; accounts = set (map account_of vs) id left.account ++ right.account ∷ [] } → Balance t record { words = ws; accounts = map account_of (set vs id left ++ right ∷ []) }
+  pair_of : (left right : View) (ws : List ℕ) (vs : List View)
+      → Balance t record { words = ws; accounts = set (map account_of vs) id left.account ++ right.account ∷ [] }
+      → Balance t record { words = ws; accounts = map account_of (set vs id left ++ right ∷ []) }
   pair_of left right ws vs w = subst (λ (l : List Account). Balance t record { words = ws; accounts = l })
       (sym (map-append account_of (set vs id left) (right ∷ []) ∙ ap (λ (l : List Account). l ++ right.account ∷ []) (map-set account_of vs id left))) w
 

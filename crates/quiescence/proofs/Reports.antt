@@ -9,14 +9,14 @@ use Rattle.quiet_core.specs.Balance.{acked_at}
 use Rattle.quiet_core.proofs.Sums.{below_turn, below_sum, below_same, below_zero, pair_here, pair_beside, pair_apart, pairs_blend}
 use Rattle.quiet_core.proofs.Acks.{open_in}
 use Rattle.quiet_core.proofs.ClaimKeeps.{claim_new}
-use Rattle.quiet_core.proofs.Parting.{meet_free}
+use Rattle.quiet_core.proofs.Clearing.{meet_free}
 use Rattle.quiet_core.proofs.Meeting.{mark_united}
 use Rattle.quiet_core.proofs.Untouched.{count_put, count_apart, by_test}
-use Rattle.quiet_core.proofs.Settle.{settled_field}
+use Rattle.quiet_core.proofs.Reached.{reached_field}
 use Rattle.quiet_core.proofs.Blank.{count_none, acked_none}
 use Rattle.quiescence.specs.Rule.{Stands, Did}
 use Rattle.quiescence.specs.Counts.{done_at, reported_in, acked_in}
-use Rattle.quiescence.specs.Learnt.{Apart}
+use Rattle.quiescence.specs.Learnt.{Disjoint}
 
 -- how many actors a deed reports, and how many letters it acknowledges
 abbrev pub reports : Deed → ℕ
@@ -76,21 +76,21 @@ module _ (t : Shape) (a : Account) (s : Stands t a) where
   reported_by (deed.Raise m i n) x may new = let o : opened (mark a m i) ≡ 1 = ap opened may.2 in let e = same_mark t a m i (told n) may.0 (within m i may.0 o) (not_done (mark a m i) o) refl in omega arith
   reported_by (deed.Post m i to n) x may new = let o : opened (mark a m i) ≡ 1 = may.3 in let e = same_mark t a m i (told (owing (mark a m i) - n)) may.0 (within m i may.0 o) (not_done (mark a m i) o) refl in omega arith
   reported_by (deed.Done m i) x may new = let o : opened (mark a m i) ≡ 1 = may.2 in let z = not_done (mark a m i) o in let e = marked t a m i reported may.0 (within m i may.0 o) in
-      let f = settled_field (λ (b : Account). reported_in t b) t m (x - 1) (put_mark a m i reported) refl refl in omega arith
+      let f = reached_field (λ (b : Account). reported_in t b) t m (x - 1) (put_mark a m i reported) refl refl in omega arith
   reported_by (deed.Collect n) x may new = by_test (λ b. reported_in t b ≡ reported_in t a + 0) (eqb x 0) (record a { collected = put 0 a.collected n 1 }) a (λ _. omega arith) (λ _. omega arith)
   reported_by (deed.Look m n) x may new = omega arith
-  reported_by (deed.Ack m n k) x may new = let f = settled_field (λ (b : Account). reported_in t b) t m (x - k) (record a { acked = put_pair a.acked m n (acks a m n + k) }) refl refl in omega arith
-  reported_by (deed.Climb c) x may new = let f = settled_field (λ (b : Account). reported_in t b) t (parent t c) (x - 1) (record a { duties = put false a.duties c false }) refl refl in omega arith
+  reported_by (deed.Ack m n k) x may new = let f = reached_field (λ (b : Account). reported_in t b) t m (x - k) (record a { acked = put_pair a.acked m n (acks a m n + k) }) refl refl in omega arith
+  reported_by (deed.Climb c) x may new = let f = reached_field (λ (b : Account). reported_in t b) t (parent t c) (x - 1) (record a { duties = put false a.duties c false }) refl refl in omega arith
 
   acked_by : (d : Deed) (x : ℕ) → May t d a → acked_in t (after t d x a) ≡ acked_in t a + acknowledges d
   acked_by (deed.Claim m) x may = by_test (λ b. acked_in t b ≡ acked_in t a + 0) (ltb x (scheduled t m)) (put_mark a m x fresh) (record a { exhausted = put false a.exhausted m true }) (λ _. omega arith) (λ _. omega arith)
   acked_by (deed.Raise m i n) x may = omega arith
   acked_by (deed.Post m i to n) x may = omega arith
-  acked_by (deed.Done m i) x may = let f = settled_field (λ (b : Account). acked_in t b) t m (x - 1) (put_mark a m i reported) refl refl in omega arith
+  acked_by (deed.Done m i) x may = let f = reached_field (λ (b : Account). acked_in t b) t m (x - 1) (put_mark a m i reported) refl refl in omega arith
   acked_by (deed.Collect n) x may = by_test (λ b. acked_in t b ≡ acked_in t a + 0) (eqb x 0) (record a { collected = put 0 a.collected n 1 }) a (λ _. omega arith) (λ _. omega arith)
   acked_by (deed.Look m n) x may = omega arith
-  acked_by (deed.Ack m n k) x may = let e = acks_more t a m n k may.0 may.1 in let f = settled_field (λ (b : Account). acked_in t b) t m (x - k) (record a { acked = put_pair a.acked m n (acks a m n + k) }) refl refl in omega arith
-  acked_by (deed.Climb c) x may = let f = settled_field (λ (b : Account). acked_in t b) t (parent t c) (x - 1) (record a { duties = put false a.duties c false }) refl refl in omega arith
+  acked_by (deed.Ack m n k) x may = let e = acks_more t a m n k may.0 may.1 in let f = reached_field (λ (b : Account). acked_in t b) t m (x - k) (record a { acked = put_pair a.acked m n (acks a m n + k) }) refl refl in omega arith
+  acked_by (deed.Climb c) x may = let f = reached_field (λ (b : Account). acked_in t b) t (parent t c) (x - 1) (record a { duties = put false a.duties c false }) refl refl in omega arith
 
 -- a claimed number is new to the hand
 pub was_free : (t : Shape) (a : Account) (x : ℕ) (a' : Account) (m : ℕ) → May t (deed.Claim m) a → Did t (deed.Claim m) a x a' → x < scheduled t m → mark a m x ≡ free
@@ -118,7 +118,7 @@ done_meet k l h = ⊎_elim (λ e. let p : done (meet k l) ≡ done l = ap (λ (x
     (λ e. let p : done (meet k l) ≡ done k = ap (λ (x : Mark). done (meet k x)) e ∙ ap done (meet_free k) in let q : done l ≡ 0 = ap done e in omega arith) h
 
 -- the counts of two that join
-pub reported_both : (t : Shape) (a c : Account) → Apart t a c → reported_in t (united a c) ≡ reported_in t a + reported_in t c
+pub reported_both : (t : Shape) (a c : Account) → Disjoint t a c → reported_in t (united a c) ≡ reported_in t a + reported_in t c
 reported_both t a c w = below_sum (done_at t a) (done_at t c) (done_at t (united a c)) (managers t)
     (λ m lm. below_sum (λ i. done (mark a m i)) (λ i. done (mark c m i)) (λ i. done (mark (united a c) m i)) (scheduled t m)
     (λ i l. ap done (mark_united a c m i) ∙ done_meet (mark a m i) (mark c m i) (w.marks m i lm)))

@@ -1,5 +1,5 @@
 -- What many hands have done together: their joint account as a sum over the list.
-use Rattle.std.proofs.Common.{◌≡◌, ◌≢◌, ℕ, zero, suc, ◌+◌, ◌≤◌, ◌⊎◌, inl, inr, ⊎_elim, Bool, true, false, ◌||◌, List, [], ◌∷◌, length, sum_by, sym, refl, ap, ◌∙◌, arith, zero-add, add-zero, true≢false}
+use Rattle.std.proofs.Common.{◌≡◌, ℕ, zero, suc, ◌+◌, ◌≤◌, ⊎_elim, Bool, true, false, ◌||◌, List, [], ◌∷◌, sum_by, sym, refl, ap, ◌∙◌, arith, zero-add, add-zero}
 use Rattle.std.proofs.lemmas.List.Sums.{sum_by-cons}
 use Rattle.std.specs.List.{All}
 use Rattle.std.proofs.lemmas.List.Elements.{All-head, All-tail}
@@ -10,7 +10,8 @@ use Rattle.quiet_core.specs.Step.{meet, united}
 use Rattle.quiet_core.proofs.Sums.{blend_at, pairs_blend}
 use Rattle.quiet_core.proofs.Blank.{mark_none, met_none, posts_none, acks_none, collects_none, duty_none}
 use Rattle.quiet_core.proofs.Meeting.{meet_apart, mark_united}
-use Rattle.quiet_core.proofs.Parting.{meet_free, meet_sum}
+use Rattle.quiet_core.proofs.Clearing.{meet_free}
+use Rattle.quiet_core.proofs.Parting.{meet_sum}
 use Rattle.quiescence.specs.Rule.{Holding}
 use Rattle.quiescence.specs.Joint.{joint}
 

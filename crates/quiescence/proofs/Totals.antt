@@ -15,7 +15,12 @@ sum_of x xs = sum_by-cons (λ (n : ℕ). n) x xs
 -- a row
 pub sum_is_below : (l : List ℕ) → sum l ≡ below (λ i. get_or l i 0) (length l)
 sum_is_below [] = refl
-sum_is_below (x ∷ xs) = let r = sum_is_below xs in let s : sum (x ∷ xs) ≡ x + sum xs = sum_of x xs in let f : below (λ i. get_or (x ∷ xs) i 0) (suc (length xs)) ≡ x + below (λ i. get_or xs i 0) (length xs) = below_front (λ i. get_or (x ∷ xs) i 0) (length xs) in s ∙ ap (λ (k : ℕ). x + k) r ∙ sym f
+sum_is_below (x ∷ xs) =
+    let r = sum_is_below xs in
+    let s : sum (x ∷ xs) ≡ x + sum xs = sum_of x xs in
+    let f : below (λ i. get_or (x ∷ xs) i 0) (suc (length xs))
+    ≡ x + below (λ i. get_or xs i 0) (length xs) = below_front (λ i. get_or (x ∷ xs) i 0) (length xs) in
+    s ∙ ap (λ (k : ℕ). x + k) r ∙ sym f
 
 below_plus : (f : ℕ → ℕ) (m n : ℕ) → below f (m + n) ≡ below f m + below (λ j. f (m + j)) n
 below_plus f m zero = ap (below f) (add-zero m) ∙ sym (add-zero (below f m))
@@ -24,7 +29,11 @@ below_plus f m (suc n) = let r = below_plus f m n in let q : m + suc n ≡ suc (
 -- rows of w, one after the other
 pub below_rows : (f : ℕ → ℕ) (w n : ℕ) → below f (n * w) ≡ below (λ m. below (λ j. f (m * w + j)) w) n
 below_rows f w zero = ap (below f) (zero-mul w)
-below_rows f w (suc n) = let r = below_rows f w n in let p = below_plus f (n * w) w in let e : below f (suc n * w) ≡ below f (n * w + w) = (let q : suc n * w ≡ n * w + w = (let u = suc-mul n w in omega arith) in ap (below f) q) in omega arith
+below_rows f w (suc n) =
+    let r = below_rows f w n in
+    let p = below_plus f (n * w) w in
+    let e : below f (suc n * w) ≡ below f (n * w + w) = (let q : suc n * w ≡ n * w + w = (let u = suc-mul n w in omega arith) in ap (below f) q) in
+    omega arith
 
 -- two rows that are alike
 pub same_rows : (l r : List ℕ) → length r ≡ length l → ((k : ℕ) → k < length l → get_elem? r k ≡ some (get_or l k 0)) → r ≡ l

@@ -25,7 +25,7 @@ found_at Taken = 1
 abbrev pub Happened : Shape → Deed → Account → Account → Type 0
 Happened t d a a' = (x : ℕ) × Did t d a x a'
 
--- a number below the scheduled ones is claimed, which the hand had not; any other says that the manager is exhausted
+-- a place below the number of the scheduled is claimed, which the hand had not; any other says that the manager is exhausted
 abbrev pub IsClaim : Shape → ℕ → Account → Claim → Account → Type 0
 IsClaim t m a (Claimed i) a' = (i < scheduled t m) × (mark a m i ≡ free) × (a' ≡ put_mark a m i fresh)
 IsClaim t m a (Exhausted x) a' = (scheduled t m ≤ x) × (a' ≡ record a { exhausted = put false a.exhausted m true })

@@ -4,8 +4,8 @@ use Rattle.quiet_core.specs.Account.{Shape, managers, scheduled, free, Account, 
 
 -- nothing is open, nothing is left to post, and no duty is held
 pub record Idle (t : Shape) (a : Account) : Type 0 where
-  pub none_open : (m i : ℕ) → m < managers t → opened (mark a m i) ≡ 0
-  pub none_owed : (m i : ℕ) → m < managers t → owing (mark a m i) ≡ 0
+  pub none_open : (m i : ℕ) → opened (mark a m i) ≡ 0
+  pub none_owed : (m i : ℕ) → owing (mark a m i) ≡ 0
   pub no_duty : (c : ℕ) → has_duty a c ≡ false
 
 -- of an account of the whole weight: it knows at most what it posted; where it found a manager exhausted each scheduled actor is open or done in it; and if it holds Root it has acknowledged as much as it posted
@@ -22,7 +22,7 @@ pub record Learnt (t : Shape) (a : Account) : Type 0 where
   pub whole : a.weight ≡ t.hands → Whole t a
 
 -- of two hands that have met: no actor was entered by both, no manager is collected by both, and if one holds Root both are idle
-pub record Apart (t : Shape) (a c : Account) : Type 0 where
+pub record Disjoint (t : Shape) (a c : Account) : Type 0 where
   pub marks : (m i : ℕ) → m < managers t → (mark a m i ≡ free) ⊎ (mark c m i ≡ free)
   pub collectors : (n : ℕ) → n < managers t → collects a n + collects c n ≤ 1
   pub idle : (a.at_root ≡ true) ⊎ (c.at_root ≡ true) → Idle t a × Idle t c

@@ -59,6 +59,11 @@ impl Closed {
         self.ended.words[self.ended.frame.issued_at(m.0, to.0)]
     }
 
+    /// The block in which the round kept its words, for the next one (`Round::open_on`).
+    pub fn into_words(self) -> Vec<u64> {
+        self.ended.words
+    }
+
     // How many actors were scheduled at all managers.
     pub(crate) fn all_scheduled(&self) -> u64
         ensures { result ≡ sum self.now.scheduled }

@@ -31,19 +31,38 @@ impl Round {
         ensures shape { IfOk result (λ r. r.0.shape ≡ shape_over tree.now scheduled.now hands) }
         ensures hands { IfOk result (λ r. r.1.items ≡ replicate hands (new_hand r.0)) }
     {
-        let frame = Frame::of(alloc, tree, scheduled, hands)?;
-        Round::over(alloc, frame)
+        Round::open_on(alloc, Vec::new(alloc), tree, scheduled, hands)
+    }
+
+    /// The same, on the block of a round that was closed (`Closed::into_words`), so that a round takes
+    /// the block of its table and that of its list of hands alone. What the block holds doesn't matter.
+    pub fn open_on(
+        alloc: Global,
+        words: Vec<u64>,
+        tree: &Tree,
+        scheduled: &[u32],
+        hands: u32,
+    ) -> Result<(Round, Vec<Hand>), Memory>
+        requires leaves { length scheduled.now ≡ tree.now.leaves }
+        requires few { (m : ℕ) → m < length scheduled.now → slice_index scheduled.now m ≤ 1000000 }
+        requires somebody { (m : ℕ) × (m < length scheduled.now) × (1 ≤ slice_index scheduled.now m) }
+        requires least_hands { 1 ≤ hands }
+        requires most_hands { hands ≤ 64 }
+        ensures shape { IfOk result (λ r. r.0.shape ≡ shape_over tree.now scheduled.now hands) }
+        ensures hands { IfOk result (λ r. r.1.items ≡ replicate hands (new_hand r.0)) }
+    {
+        Round::over(alloc, words, Frame::of(tree, scheduled, hands))
     }
 
     // The round of this shape.
-    fn over(alloc: Global, frame: Frame) -> Result<(Round, Vec<Hand>), Memory>
+    fn over(alloc: Global, words: Vec<u64>, frame: Frame) -> Result<(Round, Vec<Hand>), Memory>
         requires sized { Sized frame }
         requires some_hands { 1 ≤ frame.hands }
         requires somebody { Somebody frame }
         ensures shape { IfOk result (λ r. r.0.shape ≡ frame) }
         ensures hands { IfOk result (λ r. r.1.items ≡ replicate frame.hands (new_hand r.0)) }
     {
-        let words = opening_words(alloc, &frame)?;
+        let words = opening_words(words, &frame)?;
         let (table, seat) = Table::of_words(alloc, words.as_slice(), &frame)?;
         let first = Hand {
             seat,

@@ -1,15 +1,15 @@
 ghost use Rattle.std.specs.Prelude.{◌≡◌, ◌≤◌, ◌<◌, []};
 ghost use Rattle.quiet_core.specs.Rows.{put_pair};
-ghost use Rattle.quiet_core.specs.Account.{knows, managers, posts, reported, root, scheduled, told};
-ghost use Rattle.quiet_core.specs.Step.{May, becomes, down, place, put_mark, stays, turn, united, up};
+ghost use Rattle.quiet_core.specs.Account.{knows, managers, parent, posts, reported, root, scheduled, told};
+ghost use Rattle.quiet_core.specs.Step.{May, becomes, change, down, place, put_mark, stays, united, up};
 ghost use Rattle.quiet_core.specs.Balance.{Sized};
 ghost use Rattle.quiescence.specs.Rule.{Did, Plays, Stands};
 ghost use Rattle.quiescence.specs.Answers.{Happened, Holds, IsAfter, IsClaim, IsFirstTurn, IsHigher, IsOwnTurn, IsPost, IsTurn, Took, acked_more, found_at, found_by, holding, relieved};
-ghost use Rattle.quiescence.specs.Learnt.{Apart, Learnt};
+ghost use Rattle.quiescence.specs.Learnt.{Disjoint, Learnt};
 
 use crate::answers::{After, Claim, Turn};
 use crate::hand::Hand;
-use crate::rule::{Balanced, Does, Sees, Sight, Told, Unites};
+use crate::rule::{Balanced, Does, Picked, Sees, Sight, Unites};
 use atomic_table::{Seat, Table};
 use quiet_core::{Deed, Frame};
 use sim_base::{ManagerId, NodeId};
@@ -66,11 +66,11 @@ impl Round {
     }
 
     // A fetch-and-add.
-    fn add<E: Told>(&self, seat: &mut Seat<(), Sight>, word: usize, k: u64, deed: Deed) -> u64
-        requires told { (E.shape ≡ self.now.shape) × (E.deed ≡ deed) }
+    fn add<E: Picked>(&self, seat: &mut Seat<(), Sight>, word: usize, k: u64, deed: Deed) -> u64
+        requires picked { (E.shape ≡ self.now.shape) × (E.deed ≡ deed) }
         requires of { seat.old.table_id ≡ self.now.table }
         requires word { word ≡ place self.now.shape deed }
-        requires turn { turn deed ≡ up k }
+        requires change { change deed ≡ up k }
         requires may { May self.now.shape deed seat.old.me.0.account }
         ensures of { seat.new.table_id ≡ seat.old.table_id }
         ensures plays { Plays self.now.shape deed seat.old.me result seat.new.me }
@@ -80,11 +80,11 @@ impl Round {
     }
 
     // A fetch-and-subtract.
-    fn sub<E: Told>(&self, seat: &mut Seat<(), Sight>, word: usize, k: u64, deed: Deed) -> u64
-        requires told { (E.shape ≡ self.now.shape) × (E.deed ≡ deed) }
+    fn sub<E: Picked>(&self, seat: &mut Seat<(), Sight>, word: usize, k: u64, deed: Deed) -> u64
+        requires picked { (E.shape ≡ self.now.shape) × (E.deed ≡ deed) }
         requires of { seat.old.table_id ≡ self.now.table }
         requires word { word ≡ place self.now.shape deed }
-        requires turn { turn deed ≡ down k }
+        requires change { change deed ≡ down k }
         requires may { May self.now.shape deed seat.old.me.0.account }
         ensures of { seat.new.table_id ≡ seat.old.table_id }
         ensures plays { Plays self.now.shape deed seat.old.me result seat.new.me }
@@ -94,11 +94,11 @@ impl Round {
     }
 
     // A swap.
-    fn set<E: Told>(&self, seat: &mut Seat<(), Sight>, word: usize, value: u64, deed: Deed) -> u64
-        requires told { (E.shape ≡ self.now.shape) × (E.deed ≡ deed) }
+    fn set<E: Picked>(&self, seat: &mut Seat<(), Sight>, word: usize, value: u64, deed: Deed) -> u64
+        requires picked { (E.shape ≡ self.now.shape) × (E.deed ≡ deed) }
         requires of { seat.old.table_id ≡ self.now.table }
         requires word { word ≡ place self.now.shape deed }
-        requires turn { turn deed ≡ becomes value }
+        requires change { change deed ≡ becomes value }
         requires may { May self.now.shape deed seat.old.me.0.account }
         ensures of { seat.new.table_id ≡ seat.old.table_id }
         ensures plays { Plays self.now.shape deed seat.old.me result seat.new.me }
@@ -108,11 +108,11 @@ impl Round {
     }
 
     // A load.
-    fn read<E: Told>(&self, seat: &mut Seat<(), Sight>, word: usize, deed: Deed) -> u64
-        requires told { (E.shape ≡ self.now.shape) × (E.deed ≡ deed) }
+    fn read<E: Picked>(&self, seat: &mut Seat<(), Sight>, word: usize, deed: Deed) -> u64
+        requires picked { (E.shape ≡ self.now.shape) × (E.deed ≡ deed) }
         requires of { seat.old.table_id ≡ self.now.table }
         requires word { word ≡ place self.now.shape deed }
-        requires turn { turn deed ≡ stays }
+        requires change { change deed ≡ stays }
         requires may { May self.now.shape deed seat.old.me.0.account }
         ensures of { seat.new.table_id ≡ seat.old.table_id }
         ensures plays { Plays self.now.shape deed seat.old.me result seat.new.me }
@@ -263,6 +263,14 @@ impl Round {
         self.after(m.0, found - n)
     }
 
+    // The node to which a climb leads.
+    fn above(&self, node: NodeId) -> NodeId
+        requires { node.0 < root self.now.shape }
+        ensures { result.0 ≡ parent self.now.shape node.0 }
+    {
+        NodeId(self.frame.parent(node.0))
+    }
+
     /// Passes the duty that the hand holds at a node on to the node's parent. Takes 1 from the word
     /// of the parent.
     pub fn climb(&self, hand: &mut Hand, node: NodeId) -> After
@@ -277,7 +285,7 @@ impl Round {
         ensures learnt { Learnt self.now.shape hand.new.account }
     {
         let seat = &mut hand.seat;
-        let above = self.frame.parent(node.0);
+        let above = self.above(node).0;
         let deed = Deed::Climb { node: node.0 };
         let found = self.sub::<Brand>(seat, above as usize, 1, deed);
         self.after(above, found - 1)
@@ -295,8 +303,8 @@ impl Round {
     }
 
     // One seat takes in the account of another.
-    fn join<E: Told>(&self, seat: &mut Seat<(), Sight>, from: Seat<(), Sight>)
-        requires told { E.shape ≡ self.now.shape }
+    fn join<E: Picked>(&self, seat: &mut Seat<(), Sight>, from: Seat<(), Sight>)
+        requires picked { E.shape ≡ self.now.shape }
         requires of { (seat.old.table_id ≡ self.now.table) × (from.table_id ≡ self.now.table) }
         requires no_slot { from.me.1 ≡ [] }
         requires has_weight { 1 ≤ seat.old.me.0.account.weight }
@@ -310,7 +318,7 @@ impl Round {
     pub fn unite(&self, hand: &mut Hand, from: Hand)
         requires of { (hand.old.round ≡ self.now) × (from.round ≡ self.now) }
         ensures joined { hand.new ≡ record hand.old { account = united hand.old.account from.account } }
-        ensures apart { Apart self.now.shape hand.old.account from.account }
+        ensures apart { Disjoint self.now.shape hand.old.account from.account }
         ensures learnt { Learnt self.now.shape hand.new.account }
     {
         let Hand {

@@ -35,12 +35,14 @@ impl Rounds {
     }
 
     /// Adds a closed round: 1, the actors that were scheduled in it, and the letters that were posted.
-    pub fn add(&mut self, closed: Closed)
+    /// Gives back the block of its words, on which the next round may stand (`Round::open_on`).
+    pub fn add(&mut self, closed: Closed) -> Vec<u64>
         ensures { self.new ≡ with_round self.old closed }
     {
         self.rounds = self.rounds.saturating_add(1);
         self.scheduled = self.scheduled.saturating_add(closed.all_scheduled());
         self.posted = self.posted.saturating_add(closed.all_posted());
+        closed.into_words()
     }
 
     /// The rounds, the scheduled actors and the posted letters.

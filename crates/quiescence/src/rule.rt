@@ -27,7 +27,7 @@ impl TableRule<(), Sight, Frame> for Balanced {
 }
 
 /// What is done, and in a round of what shape. Each call picks them.
-pub trait Told {
+pub trait Picked {
     ghost use Rattle.quiet_core.specs.Account.{Shape};
     ghost use Rattle.quiet_core.specs.declared.deed.Deed.{Deed};
 
@@ -36,7 +36,7 @@ pub trait Told {
     ghost deed: { Deed };
 }
 
-impl Told for Brand {
+impl Picked for Brand {
     ghost use Rattle.quiet_core.specs.Account.{no_actors};
     ghost use Rattle.quiet_core.specs.declared.deed.Deed.TheVariants.{Climb};
 
@@ -46,11 +46,11 @@ impl Told for Brand {
 }
 
 /// A deed, which is an event of the core.
-pub struct Does<E: Told> {
+pub struct Does<E: Picked> {
     of: PhantomData<E>,
 }
 
-impl<E: Told> Play<(), Sight> for Does<E> {
+impl<E: Picked> Play<(), Sight> for Does<E> {
     ghost use Rattle.quiescence.specs.Rule.{Plays};
 
     ghost then = { λ _. Plays E.shape E.deed };
@@ -89,11 +89,11 @@ impl Split<Sight> for Deals {
 }
 
 /// Two accounts become one, and the other is left blank.
-pub struct Unites<E: Told> {
+pub struct Unites<E: Picked> {
     of: PhantomData<E>,
 }
 
-impl<E: Told> Join<Sight> for Unites<E> {
+impl<E: Picked> Join<Sight> for Unites<E> {
     ghost use Rattle.quiet_core.specs.Account.{blank};
     ghost use Rattle.quiet_core.specs.Step.{united};
 

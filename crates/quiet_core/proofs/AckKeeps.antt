@@ -5,12 +5,14 @@ use lib.ListN.{get_elem?}
 use Rattle.quiet_core.specs.Rows.{put, put_pair}
 use Rattle.quiet_core.specs.Account.{Shape, managers, Account, mark, has_met, posts, knows, acks, collects, entered}
 use Rattle.quiet_core.specs.declared.deed.Deed.TheVariants as deed
-use Rattle.quiet_core.specs.Step.{State, word, claim_at, coll_at, issued_at, settled, May, acted}
+use Rattle.quiet_core.specs.Step.{State, word, claim_at, coll_at, issued_at, reached, May, acted}
 use Rattle.quiet_core.specs.Balance.{past, open_at, plain_at, owed_at, acked_at, UnitsAt, LettersAt, Balance}
+use Rattle.quiet_core.specs.Clear.{Clear}
+use Rattle.quiet_core.proofs.Clearing.{after_clear}
 use Rattle.quiet_core.proofs.Sums.{sum_turn, each_turn, below_same, below_turn, pair_here, pair_beside, pair_apart}
 use Rattle.quiet_core.proofs.Untouched.{split_at, next, weights_same, claims_same, issued_same, units_same, letters_same, collectors_same}
 use Rattle.quiet_core.proofs.Acks.{ack_left}
-use Rattle.quiet_core.proofs.Settle.{settled_field, leaf_climbs}
+use Rattle.quiet_core.proofs.Reached.{reached_field, leaf_climbs}
 
 module _ (t : Shape) (s : State) (h : ℕ) (a : Account) (m n k : ℕ) (w : Balance t s) (at : get_elem? s.accounts h ≡ some a) (may : May t (deed.Ack m n k) a) where
   abbrev x : ℕ
@@ -20,13 +22,13 @@ module _ (t : Shape) (s : State) (h : ℕ) (a : Account) (m n k : ℕ) (w : Bala
   c = record a { acked = put_pair a.acked m n (acks a m n + k) }
 
   abbrev b : Account
-  b = settled t m (x - k) c
+  b = reached t m (x - k) c
 
   abbrev s' : State
   s' = next t s h a b at m (x - k)
 
   field : {B : Type 0} (f : Account → B) → f (record c { at_root = true }) ≡ f c → f (record c { duties = put false c.duties m true }) ≡ f c → f b ≡ f c
-  field f = settled_field f t m (x - k) c
+  field f = reached_field f t m (x - k) c
 
   others : (j : ℕ) → j ≢ m → word s' j ≡ word s j
   others j ne = get_or-set_other s.words m j (x - k) 0 ne
@@ -68,7 +70,9 @@ module _ (t : Shape) (s : State) (h : ℕ) (a : Account) (m n k : ℕ) (w : Bala
     sized = w.sized;
     wide = length-set s.words m (x - k) ∙ w.wide;
     weights = weights_same t s h a b at m (x - k) (field (λ (y : Account). y.weight) refl refl) may.2 w.weights;
-    claims = λ l ll. claims_same t s h a b at m (x - k) l (others (claim_at t l) (omega arith)) (λ j. ap entered (field (λ (y : Account). mark y l j) refl refl)) (field (past l) refl refl) (field (λ (y : Account). has_met y l) refl refl) (w.claims l ll);
+    claims = λ l ll. claims_same t s h a b at m (x - k) l (others (claim_at t l) (omega arith))
+        (λ j. ap entered (field (λ (y : Account). mark y l j) refl refl)) (field (past l) refl refl) (field (λ (y : Account). has_met y l) refl refl)
+        (w.claims l ll);
     units = split_at (λ l. l < managers t → UnitsAt t s' l) m (λ l. units_here)
         (λ l ne ll. units_same t s h a b at m (x - k) l (others l ne) (others (claim_at t l) (omega arith)) (issued_same t s h a b at m (x - k) l (λ j lj. others (issued_at t l j) (omega arith)))
         (field (open_at t l) refl refl) (field (plain_at t l) refl refl) (field (owed_at t l) refl refl)
@@ -81,4 +85,5 @@ module _ (t : Shape) (s : State) (h : ℕ) (a : Account) (m n k : ℕ) (w : Bala
         (acks_apart l j ne) (field (λ (y : Account). collects y j) refl refl) (w.letters l j ll lj));
     collectors = λ j l. collectors_same t s h a b at m (x - k) j (others (coll_at t j) (omega arith)) (field (λ (y : Account). collects y j) refl refl) (w.collectors j l);
     climbs = leaf_climbs t s h a at c m (x - k) (omega arith) (let o = enough in let one = may.4 in omega arith) (omega arith) refl refl w.climbs lm (λ j. refl);
+    clear = each_turn (Clear t) s.accounts h b w.clear (after_clear t (deed.Ack m n k) x a (may.0, may.1) (w.clear h a at));
   }

@@ -8,8 +8,12 @@ use Rattle.quiet_core.specs.Account.{Shape, managers, scheduled, free, fresh, Ac
 use Rattle.quiet_core.specs.declared.deed.Deed.TheVariants as deed
 use Rattle.quiet_core.specs.Step.{State, word, claim_at, coll_at, issued_at, put_mark, May, acted}
 use Rattle.quiet_core.specs.Balance.{past, open_at, plain_at, owed_at, acked_at, ClaimsAt, UnitsAt, Balance}
+use Rattle.quiet_core.specs.Clear.{Clear}
+use Rattle.quiet_core.proofs.Clearing.{put_clear}
 use Rattle.quiet_core.proofs.Sums.{put_here, put_else, le_sum, sum_turn, each_turn}
-use Rattle.quiet_core.proofs.Untouched.{by_test, split_at, past_none, past_all, past_le, mark_here, mark_beside, mark_apart, count_put, count_apart, next, weights_same, claims_same, issued_same, units_same, letters_same, collectors_same, climbs_same, freed, nothing}
+use Rattle.quiet_core.proofs.Untouched.{by_test, split_at, past_none, past_all, past_le, mark_here, mark_beside, mark_apart, count_put, count_apart}
+use Rattle.quiet_core.proofs.Untouched.{next, weights_same, claims_same, issued_same, units_same, letters_same, collectors_same, climbs_same, freed}
+use Rattle.quiet_core.proofs.Untouched.{nothing}
 
 module _ (t : Shape) (s : State) (h : ℕ) (a : Account) (m : ℕ) (w : Balance t s) (at : get_elem? s.accounts h ≡ some a) (may : May t (deed.Claim m) a) where
   abbrev p : ℕ
@@ -80,6 +84,7 @@ module _ (t : Shape) (s : State) (h : ℕ) (a : Account) (m : ℕ) (w : Balance 
       letters = λ n k ln lk. letters_same t s h a b at p (x + 1) n k (others (issued_at t n k) (omega arith)) refl refl refl refl (w.letters n k ln lk);
       collectors = λ n l. collectors_same t s h a b at p (x + 1) n (others (coll_at t n) (omega arith)) refl (w.collectors n l);
       climbs = climbs_same t s h a b at p (x + 1) (λ c l. others c (omega arith)) (λ c. refl) refl w.climbs;
+      clear = each_turn (Clear t) s.accounts h b w.clear (put_clear t a m x fresh may.0 (w.clear h a at));
     }
 
   -- all numbers are taken
@@ -116,7 +121,8 @@ module _ (t : Shape) (s : State) (h : ℕ) (a : Account) (m : ℕ) (w : Balance 
           (λ n ne l. claims_same t s h a b' at p (x + 1) n (others (claim_at t n) (omega arith)) (λ i. refl) (ap (λ (k : Bool). cond (k || a.collecting) a.weight 0) (met_else n ne)) (met_else n ne) (w.claims n l));
       units = split_at (λ n. n < managers t → UnitsAt t s'' n) m
           (λ l. let e = others m (omega arith) in let f = here in let g = issued_same t s h a b' at p (x + 1) m (λ n ln. others (issued_at t m n) (omega arith)) in let v = w.units m may.0 in
-          let o = sum_turn (open_at t m) s.accounts h a b' at in let p' = sum_turn (plain_at t m) s.accounts h a b' at in let q = sum_turn (owed_at t m) s.accounts h a b' at in let r = sum_turn (acked_at t m) s.accounts h a b' at in record {
+          let o = sum_turn (open_at t m) s.accounts h a b' at in let p' = sum_turn (plain_at t m) s.accounts h a b' at in
+          let q = sum_turn (owed_at t m) s.accounts h a b' at in let r = sum_turn (acked_at t m) s.accounts h a b' at in record {
             exact = let y = v.exact in omega arith;
             room = let y = v.room in omega arith;
             letters = let y = v.letters in omega arith;
@@ -126,6 +132,7 @@ module _ (t : Shape) (s : State) (h : ℕ) (a : Account) (m : ℕ) (w : Balance 
       letters = λ n k ln lk. letters_same t s h a b' at p (x + 1) n k (others (issued_at t n k) (omega arith)) refl refl refl refl (w.letters n k ln lk);
       collectors = λ n l. collectors_same t s h a b' at p (x + 1) n (others (coll_at t n) (omega arith)) refl (w.collectors n l);
       climbs = climbs_same t s h a b' at p (x + 1) (λ c l. others c (omega arith)) (λ c. refl) refl w.climbs;
+      clear = each_turn (Clear t) s.accounts h b' w.clear (let c = w.clear h a at in record { marks = c.marks; posted = c.posted; acked = c.acked; collected = c.collected });
     }
 
   pub claim_keeps : Balance t (acted t h a (deed.Claim m) s)

@@ -7,11 +7,13 @@ use lib.ListN.{get_elem?}
 use Rattle.quiet_core.specs.Rows.{put, below, bit}
 use Rattle.quiet_core.specs.Account.{Shape, managers, root, parent, Account, mark, has_met, posts, knows, acks, collects, has_duty, entered}
 use Rattle.quiet_core.specs.declared.deed.Deed.TheVariants as deed
-use Rattle.quiet_core.specs.Step.{State, word, claim_at, coll_at, issued_at, settled, May, acted}
+use Rattle.quiet_core.specs.Step.{State, word, claim_at, coll_at, issued_at, reached, May, acted}
 use Rattle.quiet_core.specs.Balance.{past, open_at, plain_at, owed_at, acked_at, duties_at, alive, Balance}
-use Rattle.quiet_core.proofs.Sums.{put_here, put_else, le_sum, le_below, below_same, below_turn}
+use Rattle.quiet_core.specs.Clear.{Clear}
+use Rattle.quiet_core.proofs.Clearing.{after_clear}
+use Rattle.quiet_core.proofs.Sums.{each_turn, put_here, put_else, le_sum, le_below, below_same, below_turn}
 use Rattle.quiet_core.proofs.Untouched.{split_at, next, weights_same, claims_same, issued_same, units_same, letters_same, collectors_same}
-use Rattle.quiet_core.proofs.Settle.{settled_field, lives, above, at_top}
+use Rattle.quiet_core.proofs.Reached.{reached_field, lives, above, at_top}
 
 module _ (t : Shape) (s : State) (h : ℕ) (a : Account) (k : ℕ) (w : Balance t s) (at : get_elem? s.accounts h ≡ some a) (may : May t (deed.Climb k) a) where
   abbrev j : ℕ
@@ -24,13 +26,13 @@ module _ (t : Shape) (s : State) (h : ℕ) (a : Account) (k : ℕ) (w : Balance 
   c = record a { duties = put false a.duties k false }
 
   abbrev b : Account
-  b = settled t j (x - 1) c
+  b = reached t j (x - 1) c
 
   abbrev s' : State
   s' = next t s h a b at j (x - 1)
 
   field : {B : Type 0} (f : Account → B) → f (record c { at_root = true }) ≡ f c → f (record c { duties = put false c.duties j true }) ≡ f c → f b ≡ f c
-  field f = settled_field f t j (x - 1) c
+  field f = reached_field f t j (x - 1) c
 
   held : 1 ≤ duties_at k s
   held = let l = le_sum (λ (y : Account). bit (has_duty y k)) s.accounts h a at in let e : bit (has_duty a k) ≡ 1 = ap bit may.2 in omega arith
@@ -62,7 +64,11 @@ module _ (t : Shape) (s : State) (h : ℕ) (a : Account) (k : ℕ) (w : Balance 
       (duty_else j (omega arith)) refl w.climbs
 
   none : (y : ℕ) → root t ≤ y → duties_at y s' ≡ 0
-  none = let up = w.sized.parents_above k inside in let ins = inside in above t s h a at c j (x - 1) (w.sized.parents_below k inside) (let o = some_kids in omega arith) (let e = w.wide in let l = w.sized.parents_below k inside in omega arith)
+  none =
+      let up = w.sized.parents_above k inside in
+      let ins = inside in
+      above t s h a at c j (x - 1) (w.sized.parents_below k inside) (let o = some_kids in omega arith)
+      (let e = w.wide in let l = w.sized.parents_below k inside in omega arith)
       (duty_else j (omega arith)) refl w.climbs (λ y l. duty_else y (omega arith))
 
   fewer : (y : ℕ) → bit (has_duty c y) ≤ bit (has_duty a y)
@@ -88,7 +94,9 @@ module _ (t : Shape) (s : State) (h : ℕ) (a : Account) (k : ℕ) (w : Balance 
     sized = w.sized;
     wide = length-set s.words j (x - 1) ∙ w.wide;
     weights = weights_same t s h a b at j (x - 1) (field (λ (y : Account). y.weight) refl refl) may.1 w.weights;
-    claims = λ l ll. claims_same t s h a b at j (x - 1) l (others (claim_at t l) (omega arith)) (λ i. ap entered (field (λ (y : Account). mark y l i) refl refl)) (field (past l) refl refl) (field (λ (y : Account). has_met y l) refl refl) (w.claims l ll);
+    claims = λ l ll. claims_same t s h a b at j (x - 1) l (others (claim_at t l) (omega arith))
+        (λ i. ap entered (field (λ (y : Account). mark y l i) refl refl)) (field (past l) refl refl) (field (λ (y : Account). has_met y l) refl refl)
+        (w.claims l ll);
     units = λ l ll. units_same t s h a b at j (x - 1) l (others l (omega arith)) (others (claim_at t l) (omega arith)) (issued_same t s h a b at j (x - 1) l (λ i li. others (issued_at t l i) (omega arith)))
         (field (open_at t l) refl refl) (field (plain_at t l) refl refl) (field (owed_at t l) refl refl) (field (acked_at t l) refl refl) (w.units l ll);
     letters = λ l i ll li. letters_same t s h a b at j (x - 1) l i (others (issued_at t l i) (omega arith)) (field (λ (y : Account). posts y l i) refl refl) (field (λ (y : Account). knows y l i) refl refl)
@@ -100,4 +108,5 @@ module _ (t : Shape) (s : State) (h : ℕ) (a : Account) (k : ℕ) (w : Balance 
       kids = split_at (λ l. managers t ≤ l → l ≤ root t → word s' l ≡ below (λ c. cond (eqb (parent t c) l) (alive s' c) 0) (root t)) j (λ u v. kids_here) kids_else;
       top = at_top t s h a at c j (x - 1) high (let o = some_kids in omega arith) (omega arith) (duty_else j (omega arith)) refl w.climbs;
     };
+    clear = each_turn (Clear t) s.accounts h b w.clear (after_clear t (deed.Climb k) x a inside (w.clear h a at));
   }

@@ -7,6 +7,8 @@ use Rattle.quiet_core.specs.Account.{Shape, managers, Account, mark, has_met, po
 use Rattle.quiet_core.specs.declared.deed.Deed.TheVariants as deed
 use Rattle.quiet_core.specs.Step.{State, word, claim_at, coll_at, issued_at, May, acted}
 use Rattle.quiet_core.specs.Balance.{past, open_at, plain_at, owed_at, acked_at, LettersAt, CollectorAt, Balance}
+use Rattle.quiet_core.specs.Clear.{Clear}
+use Rattle.quiet_core.proofs.Clearing.{turn_clear}
 use Rattle.quiet_core.proofs.Sums.{put_here, put_else, le_sum, sum_turn, each_turn, pair_here, pair_beside, pair_apart, pair_below}
 use Rattle.quiet_core.proofs.Untouched.{by_test, split_at, next, weights_same, claims_same, issued_same, units_same, letters_same, collectors_same, climbs_same}
 
@@ -18,7 +20,7 @@ module _ (t : Shape) (s : State) (h : ℕ) (a : Account) (n : ℕ) (w : Balance 
   x = word s (coll_at t n)
 
   module _ (b : Account) (same : (j : ℕ) → j ≢ n → collects b j ≡ collects a j) (now : (x ≡ 0) ⊎ (x ≡ 1)) (mine : x ≡ 0 → collects b n ≡ 1) (not : x ≡ 1 → collects b n ≡ collects a n)
-      (is : b ≡ record a { collected = b.collected }) where
+      (is : b ≡ record a { collected = b.collected }) (cleared : Clear t b) where
     abbrev s' : State
     s' = next t s h a b at p 1
 
@@ -56,17 +58,19 @@ module _ (t : Shape) (s : State) (h : ℕ) (a : Account) (n : ℕ) (w : Balance 
       units = λ l ll. units_same t s h a b at p 1 l (others l (omega arith)) (others (claim_at t l) (omega arith)) (issued_same t s h a b at p 1 l (λ j lj. others (issued_at t l j) (omega arith)))
           (field (open_at t l) refl) (field (plain_at t l) refl) (field (owed_at t l) refl) (field (acked_at t l) refl) (w.units l ll);
       letters = λ l. split_at (λ j. l < managers t → j < managers t → LettersAt t s' l j) n (λ ll u. letters_here l ll)
-          (λ j ne ll lj. letters_same t s h a b at p 1 l j (others (issued_at t l j) (omega arith)) (field (λ (y : Account). posts y l j) refl) (field (λ (y : Account). knows y l j) refl) (field (λ (y : Account). acks y l j) refl) (same j ne) (w.letters l j ll lj));
+          (λ j ne ll lj. letters_same t s h a b at p 1 l j (others (issued_at t l j) (omega arith)) (field (λ (y : Account). posts y l j) refl)
+          (field (λ (y : Account). knows y l j) refl) (field (λ (y : Account). acks y l j) refl) (same j ne) (w.letters l j ll lj));
       collectors = split_at (λ j. j < managers t → CollectorAt t s' j) n (λ l. collector_here)
           (λ j ne l. collectors_same t s h a b at p 1 j (others (coll_at t j) (omega arith)) (same j ne) (w.collectors j l));
       climbs = climbs_same t s h a b at p 1 (λ c l. others c (omega arith)) (λ c. field (λ (y : Account). has_duty y c) refl) (field (λ (y : Account). y.at_root) refl) w.climbs;
+      clear = each_turn (Clear t) s.accounts h b w.clear cleared;
     }
 
   pub collect_keeps : Balance t (acted t h a (deed.Collect n) s)
   collect_keeps = let o = (w.collectors n may.0).one_collector in
       by_test (λ (c : Account). Balance t record { words = set s.words p 1; accounts = set s.accounts h c }) (eqb x 0) (record a { collected = put 0 a.collected n 1 }) a
-      (λ e. let z = eqb-true x 0 e in one_way (record a { collected = put 0 a.collected n 1 }) (λ j ne. put_else 0 a.collected n j 1 ne) (inl z) (λ _. put_here 0 a.collected n 1) (λ f. absurd (omega arith)) refl)
-      (λ e. let nz : x ≢ 0 = λ z. absurd (true≢false (sym (eq-eqb x 0 z) ∙ e)) in one_way a (λ j ne. refl) (inr (omega arith)) (λ z. absurd (nz z)) (λ f. refl) refl)
+      (λ e. let z = eqb-true x 0 e in one_way (record a { collected = put 0 a.collected n 1 }) (λ j ne. put_else 0 a.collected n j 1 ne) (inl z) (λ _. put_here 0 a.collected n 1) (λ f. absurd (omega arith)) refl (turn_clear t a n may.0 (w.clear h a at)))
+      (λ e. let nz : x ≢ 0 = λ z. absurd (true≢false (sym (eq-eqb x 0 z) ∙ e)) in one_way a (λ j ne. refl) (inr (omega arith)) (λ z. absurd (nz z)) (λ f. refl) refl (w.clear h a at))
 
   -- who finds 0 has acknowledged nothing to n
   pub collect_new : x ≡ 0 → (m : ℕ) → m < managers t → acks a m n ≡ 0
@@ -109,6 +113,7 @@ module _ (t : Shape) (s : State) (h : ℕ) (a : Account) (m n : ℕ) (w : Balanc
         (λ l ne j ll lj. letters_same t s h a c at q y l j (words_same (issued_at t l j)) refl (pair_apart a.known m n l j y ne) refl refl (w.letters l j ll lj));
     collectors = λ j l. collectors_same t s h a c at q y j (words_same (coll_at t j)) refl (w.collectors j l);
     climbs = climbs_same t s h a c at q y (λ k l. words_same k) (λ k. refl) refl w.climbs;
+    clear = each_turn (Clear t) s.accounts h c w.clear (let z = w.clear h a at in record { marks = z.marks; posted = z.posted; acked = z.acked; collected = z.collected });
   }
 
   pub look_more : (knows a m n ≤ y) × (posts a m n ≤ y)

@@ -48,7 +48,8 @@ module _ (t : Shape) (s : State) (h : ℕ) where
       (ltb-true _ _ r.0, (ltb-true _ _ r.1, leb-true _ _ c.1.0, was_not _ c.1.1.0, was_not _ c.1.1.1.0))
   allowed (deed.Raise m i n) e = let c = all_hold (conditions t s (does h (deed.Raise m i n))) e in let r = and_both hand (ltb m (managers t)) c.0 in
       (ltb-true _ _ r.0, (ltb-true _ _ r.1, leb-true _ _ c.1.0, is_fresh _ (eqb-true _ _ c.1.1.1.0), leb-true _ _ c.1.1.1.1.0, leb-true _ _ c.1.1.1.1.1.0))
-  allowed (deed.Post m i to n) e = let c = all_hold (conditions t s (does h (deed.Post m i to n))) e in let r = and_both hand (ltb m (managers t) && ltb to (managers t)) c.0 in let b = and_both (ltb m (managers t)) (ltb to (managers t)) r.1 in
+  allowed (deed.Post m i to n) e = let c = all_hold (conditions t s (does h (deed.Post m i to n))) e in
+      let r = and_both hand (ltb m (managers t) && ltb to (managers t)) c.0 in let b = and_both (ltb m (managers t)) (ltb to (managers t)) r.1 in
       (ltb-true _ _ r.0, (ltb-true _ _ b.0, ltb-true _ _ b.1, leb-true _ _ c.1.0, eqb-true _ _ c.1.1.0, leb-true _ _ c.1.1.1.0, leb-true _ _ c.1.1.1.1.0))
   allowed (deed.Done m i) e = let c = all_hold (conditions t s (does h (deed.Done m i))) e in let r = and_both hand (ltb m (managers t)) c.0 in
       (ltb-true _ _ r.0, (ltb-true _ _ r.1, leb-true _ _ c.1.0, eqb-true _ _ c.1.1.0, eqb-true _ _ c.1.1.1.0))

@@ -5,12 +5,14 @@ use lib.ListN.{get_elem?}
 use Rattle.quiet_core.specs.Rows.{put}
 use Rattle.quiet_core.specs.Account.{Shape, managers, scheduled, reported, Account, mark, has_met, posts, knows, acks, collects, entered, opened, plain, owing}
 use Rattle.quiet_core.specs.declared.deed.Deed.TheVariants as deed
-use Rattle.quiet_core.specs.Step.{State, word, claim_at, coll_at, issued_at, put_mark, settled, May, acted}
+use Rattle.quiet_core.specs.Step.{State, word, claim_at, coll_at, issued_at, put_mark, reached, May, acted}
 use Rattle.quiet_core.specs.Balance.{past, open_at, plain_at, owed_at, acked_at, ClaimsAt, UnitsAt, Balance}
-use Rattle.quiet_core.proofs.Sums.{sum_turn}
+use Rattle.quiet_core.specs.Clear.{Clear}
+use Rattle.quiet_core.proofs.Clearing.{after_clear}
+use Rattle.quiet_core.proofs.Sums.{each_turn, sum_turn}
 use Rattle.quiet_core.proofs.Untouched.{split_at, mark_here, mark_beside, mark_apart, count_put, count_apart, next, weights_same, claims_same, issued_same, units_same, letters_same, collectors_same}
 use Rattle.quiet_core.proofs.Acks.{entered_one, open_in, one_left}
-use Rattle.quiet_core.proofs.Settle.{settled_field, leaf_climbs}
+use Rattle.quiet_core.proofs.Reached.{reached_field, leaf_climbs}
 
 module _ (t : Shape) (s : State) (h : ℕ) (a : Account) (m i : ℕ) (w : Balance t s) (at : get_elem? s.accounts h ≡ some a) (may : May t (deed.Done m i) a) where
   abbrev x : ℕ
@@ -20,13 +22,13 @@ module _ (t : Shape) (s : State) (h : ℕ) (a : Account) (m i : ℕ) (w : Balanc
   c = put_mark a m i reported
 
   abbrev b : Account
-  b = settled t m (x - 1) c
+  b = reached t m (x - 1) c
 
   abbrev s' : State
   s' = next t s h a b at m (x - 1)
 
   field : {B : Type 0} (f : Account → B) → f (record c { at_root = true }) ≡ f c → f (record c { duties = put false c.duties m true }) ≡ f c → f b ≡ f c
-  field f = settled_field f t m (x - 1) c
+  field f = reached_field f t m (x - 1) c
 
   others : (k : ℕ) → k ≢ m → word s' k ≡ word s k
   others k ne = get_or-set_other s.words m k (x - 1) 0 ne
@@ -67,4 +69,5 @@ module _ (t : Shape) (s : State) (h : ℕ) (a : Account) (m i : ℕ) (w : Balanc
         (field (λ (y : Account). acks y k j) refl refl) (field (λ (y : Account). collects y j) refl refl) (w.letters k j lk lj);
     collectors = λ k l. collectors_same t s h a b at m (x - 1) k (others (coll_at t k) (omega arith)) (field (λ (y : Account). collects y k) refl refl) (w.collectors k l);
     climbs = leaf_climbs t s h a at c m (x - 1) (omega arith) (let o = one_left t s w h a at m i may.0 may.2 in omega arith) (omega arith) refl refl w.climbs lm (λ k. refl);
+    clear = each_turn (Clear t) s.accounts h b w.clear (after_clear t (deed.Done m i) x a may.0 (w.clear h a at));
   }

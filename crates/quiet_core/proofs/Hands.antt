@@ -5,18 +5,17 @@ use lib.ListN.{get_elem?}
 use Rattle.quiet_core.specs.Account.{Shape, managers, Account, blank, account, posts, acks, collects}
 use Rattle.quiet_core.specs.Step.{State, word, issued_at, united, joined, kept_part, new_part, split}
 use Rattle.quiet_core.specs.Noted.{RoomyBoth}
-use Rattle.quiet_core.specs.Clear.{Clear, AllClear}
+use Rattle.quiet_core.specs.Clear.{Clear}
 use Rattle.quiet_core.specs.Balance.{Balance}
-use Rattle.quiet_core.proofs.Sums.{le_sums, le_below, each_turn}
+use Rattle.quiet_core.proofs.Sums.{le_sums, le_below}
 use Rattle.quiet_core.proofs.Blank.{posts_none, acks_none, collects_none}
 use Rattle.quiet_core.proofs.Acks.{pair_acked}
 use Rattle.quiet_core.proofs.Parting.{join_keeps}
 use Rattle.quiet_core.proofs.Splitting.{split_keeps}
-use Rattle.quiet_core.proofs.Clearing.{blank_clear, united_clear, kept_clear, new_clear}
 use Rattle.quiet_core.proofs.Moves.{bare}
 use Rattle.quiet_core.proofs.Allowed.{sits}
 
-module _ (t : Shape) (s : State) (h g : ℕ) (w : Balance t s) (clear : AllClear t s.accounts) (lh : h < length s.accounts) (lg : g < length s.accounts) (ne : g ≢ h) where
+module _ (t : Shape) (s : State) (h g : ℕ) (w : Balance t s) (lh : h < length s.accounts) (lg : g < length s.accounts) (ne : g ≢ h) where
   abbrev a : Account
   a = account s.accounts h
 
@@ -30,10 +29,10 @@ module _ (t : Shape) (s : State) (h g : ℕ) (w : Balance t s) (clear : AllClear
   at' = sits s.accounts g lg
 
   clear_a : Clear t a
-  clear_a = clear h a at
+  clear_a = w.clear h a at
 
   clear_c : Clear t c
-  clear_c = clear g c at'
+  clear_c = w.clear g c at'
 
   both_few : (f : Account → ℕ) → f (blank t) ≡ 0 → f a + f c ≤ sum_by f s.accounts
   both_few f z = le_sums f s.accounts h g a c (blank t) at ne at' z
@@ -73,10 +72,6 @@ module _ (t : Shape) (s : State) (h g : ℕ) (w : Balance t s) (clear : AllClear
       pub joined_hands : length ys ≡ length s.accounts
       joined_hands = ap length is ∙ length-set (set s.accounts h (united a c)) g (blank (bare sched)) ∙ length-set s.accounts h (united a c)
 
-      pub joined_clear : AllClear t ys
-      joined_clear = subst (λ (z : List Account). AllClear t z) (sym (ap (λ (z : State). z.accounts) joined_is))
-          (each_turn (Clear t) (set s.accounts h (united a c)) g (blank t) (each_turn (Clear t) s.accounts h (united a c) clear (united_clear t a c clear_a clear_c)) (blank_clear t 0))
-
     module _ (is : ys ≡ set (set s.accounts h (kept_part a)) g (new_part (bare sched) a)) (two : 2 ≤ a.weight) (none : c.weight ≡ 0) where
       is_blank : c ≡ blank t
       is_blank = w.weights.spent g c at' none
@@ -89,10 +84,6 @@ module _ (t : Shape) (s : State) (h g : ℕ) (w : Balance t s) (clear : AllClear
 
       pub split_hands : length ys ≡ length s.accounts
       split_hands = ap length is ∙ length-set (set s.accounts h (kept_part a)) g (new_part (bare sched) a) ∙ length-set s.accounts h (kept_part a)
-
-      pub split_clear : AllClear t ys
-      split_clear = subst (λ (z : List Account). AllClear t z) (sym (ap (λ (z : State). z.accounts) split_is))
-          (each_turn (Clear t) (set s.accounts h (kept_part a)) g (new_part t a) (each_turn (Clear t) s.accounts h (kept_part a) clear (kept_clear t a clear_a)) (new_clear t a))
 
     pub empty_is : c.weight ≡ 0 → c ≡ blank (bare sched)
     empty_is none = w.weights.spent g c at' none ∙ ap (λ (l : List ℕ). blank (bare l)) (sym same)

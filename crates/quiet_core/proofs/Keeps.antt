@@ -5,7 +5,7 @@ use lib.ListN.{get_elem?}
 use Rattle.quiet_core.specs.Account.{Shape, Account}
 use Rattle.quiet_core.specs.declared.deed.Deed.{Deed}
 use Rattle.quiet_core.specs.declared.deed.Deed.TheVariants as deed
-use Rattle.quiet_core.specs.Step.{State, word, Turn, up, down, place, turn, turned, May, acted}
+use Rattle.quiet_core.specs.Step.{State, word, Change, up, down, place, change, changed, May, acted}
 use Rattle.quiet_core.specs.Balance.{Balance}
 use Rattle.quiet_core.proofs.Acks.{one_left}
 use Rattle.quiet_core.proofs.ClaimKeeps.{claim_keeps, claim_fits}
@@ -16,7 +16,7 @@ use Rattle.quiet_core.proofs.CollectKeeps.{collect_keeps, look_keeps}
 use Rattle.quiet_core.proofs.AckKeeps.{ack_keeps, enough}
 use Rattle.quiet_core.proofs.ClimbKeeps.{climb_keeps, some_kids}
 
-abbrev amount : Turn → ℕ
+abbrev amount : Change → ℕ
 amount (up k) = k
 amount (down k) = k
 amount _ = 0
@@ -32,7 +32,7 @@ module _ (t : Shape) (s : State) (h : ℕ) (a : Account) (w : Balance t s) (at :
   keeps (deed.Ack m n k) may = ack_keeps t s h a m n k w at may
   keeps (deed.Climb c) may = climb_keeps t s h a c w at may
 
-  pub up_fits : (d : Deed) (k : ℕ) → May t d a → turn d ≡ up k → word s (place t d) + k < 2 ^ 64
+  pub up_fits : (d : Deed) (k : ℕ) → May t d a → change d ≡ up k → word s (place t d) + k < 2 ^ 64
   up_fits (deed.Claim m) k may e = let l = claim_fits t s h a m w at may in let is : 1 ≡ k = ap amount e in omega arith
   up_fits (deed.Raise m i n) k may e = let l = raise_fits t s h a m i n w at may in let is : n ≡ k = ap amount e in omega arith
   up_fits (deed.Post m i to n) k may e = let l = post_fits t s h a m i to n w at may in let is : n ≡ k = ap amount e in omega arith
@@ -42,7 +42,7 @@ module _ (t : Shape) (s : State) (h : ℕ) (a : Account) (w : Balance t s) (at :
   up_fits (deed.Ack m n j) k may e = cc
   up_fits (deed.Climb c) k may e = cc
 
-  pub down_fits : (d : Deed) (k : ℕ) → May t d a → turn d ≡ down k → k ≤ word s (place t d)
+  pub down_fits : (d : Deed) (k : ℕ) → May t d a → change d ≡ down k → k ≤ word s (place t d)
   down_fits (deed.Claim m) k may e = cc
   down_fits (deed.Raise m i n) k may e = cc
   down_fits (deed.Post m i to n) k may e = cc
@@ -53,9 +53,9 @@ module _ (t : Shape) (s : State) (h : ℕ) (a : Account) (w : Balance t s) (at :
   down_fits (deed.Climb c) k may e = let l = some_kids t s h a c w at may in let is : 1 ≡ k = ap amount e in omega arith
 
   -- what the word really becomes
-  pub up_is : (d : Deed) (k : ℕ) → May t d a → turn d ≡ up k → (word s (place t d) + k) % 2 ^ 64 ≡ turned (turn d) (word s (place t d))
-  up_is d k may e = mod-eq_of_lt (up_fits d k may e) ∙ sym (ap (λ u. turned u (word s (place t d))) e)
+  pub up_is : (d : Deed) (k : ℕ) → May t d a → change d ≡ up k → (word s (place t d) + k) % 2 ^ 64 ≡ changed (change d) (word s (place t d))
+  up_is d k may e = mod-eq_of_lt (up_fits d k may e) ∙ sym (ap (λ u. changed u (word s (place t d))) e)
 
-  pub down_is : (d : Deed) (k : ℕ) → May t d a → turn d ≡ down k → word s (place t d) < 2 ^ 64 → k < 2 ^ 64 → (word s (place t d) + (2 ^ 64 - k)) % 2 ^ 64 ≡ turned (turn d) (word s (place t d))
+  pub down_is : (d : Deed) (k : ℕ) → May t d a → change d ≡ down k → word s (place t d) < 2 ^ 64 → k < 2 ^ 64 → (word s (place t d) + (2 ^ 64 - k)) % 2 ^ 64 ≡ changed (change d) (word s (place t d))
   down_is d k may e small fits = let x : ℕ = word s (place t d) in let l : k ≤ x = down_fits d k may e in let small' : x < 2 ^ 64 = small in
-      let f : (x + (2 ^ 64 - k)) % 2 ^ 64 ≡ x - k = omega arith in f ∙ sym (ap (λ u. turned u x) e)
+      let f : (x + (2 ^ 64 - k)) % 2 ^ 64 ≡ x - k = omega arith in f ∙ sym (ap (λ u. changed u x) e)

@@ -1,11 +1,10 @@
 -- The laws that public functions name.
-use Rattle.std.proofs.Common.{◌≡◌, ◌≢◌, ℕ, ◌<◌, ◌≤◌, Bool, true, false, not, ◌&&◌, cond, eqb, ltb, leb, List, [], ◌∷◌, length, Ok, Err, refl, sym, ap, ◌∙◌, arith, ltb-true, leb-true, eqb-true, lt-ltb, eq-eqb, true≢false, ne_eqb}
+use Rattle.std.proofs.Common.{◌≡◌, ◌≢◌, ℕ, ◌<◌, Bool, true, false, not, ◌&&◌, cond, eqb, ltb, leb, List, [], ◌∷◌, length, Ok, Err, refl, sym, ap, ◌∙◌, arith, ltb-true, leb-true, eqb-true, lt-ltb, eq-eqb, true≢false, ne_eqb}
 use Rattle.std.proofs.lemmas.Bool.{le-leb}
 use mathlib.Core.Option.{some}
-use lib.ListN.{get_elem?}
 use Rattle.quiet_core.specs.declared.deed.Deed.{Deed}
 use Rattle.quiet_core.specs.declared.deed.Deed.TheVariants as deed
-use Rattle.quiet_core.specs.Account.{Shape, managers, root, Account, Mark, blank, opened, plain, owing}
+use Rattle.quiet_core.specs.Account.{Shape, managers, root, Account, Mark, blank, opened, plain}
 use Rattle.quiet_core.specs.Step.{State, May}
 use Rattle.quiet_core.specs.Balance.{Balance}
 use Rattle.quiet_core.specs.Conditions.{Check, refused, verdict}

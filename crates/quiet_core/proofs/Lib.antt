@@ -6,7 +6,7 @@ pub mod Blends
 pub mod Sums
 pub mod Untouched
 pub mod Blank
-pub mod Settle
+pub mod Reached
 pub mod Acks
 pub mod ClaimKeeps
 pub mod RaiseKeeps

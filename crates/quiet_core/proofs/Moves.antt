@@ -68,7 +68,8 @@ module _ {A : Type 0} (items : A → List Entry) (ls : List Account) (ms : List 
 
     pub joined_all : all_from 0 ls' (map items ms') ≡ set (set xs h both) g left
     joined_all = ap (λ (t : List (List Entry)). all_from 0 ls' t) passes
-        ∙ (let n = length_all 0 ls' (passed_table g h ne table) in let n' = length_all 0 ls table in let p = length-set ls g z in let q = length-set (set ls g z) h u in let r = length-set xs h both in let o = length-set (set xs h both) g left in
+        ∙ (let n = length_all 0 ls' (passed_table g h ne table) in let n' = length_all 0 ls table in let p = length-set ls g z in
+        let q = length-set (set ls g z) h u in let r = length-set xs h both in let o = length-set (set xs h both) g left in
         same_lists (all_from 0 ls' (passed_table g h ne table)) (set (set xs h both) g left) (omega arith)
         (λ k lk. at_all k ls' (passed_table g h ne table) (omega arith) ∙ at_each k (omega arith)))
 

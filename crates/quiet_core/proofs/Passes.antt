@@ -10,7 +10,7 @@ use Rattle.quiet_core.specs.Rows.{blend}
 use Rattle.quiet_core.specs.Account.{Mark, free, fresh, told, reported}
 use Rattle.quiet_core.specs.Step.{meet}
 use Rattle.quiet_core.specs.Entries.{mark_of, marks_of, passed}
-use Rattle.quiet_core.proofs.Parting.{meet_free}
+use Rattle.quiet_core.proofs.Clearing.{meet_free}
 
 module _ {A : Type 0} (f : A → A) where
   -- the first n places of a row are changed

@@ -2,15 +2,12 @@
 use Rattle.std.proofs.Common.{◌≡◌, ℕ, ◌+◌, ◌^◌, ◌<◌, ◌≤◌, List, length, get_or, set, sym, ap, ◌∙◌, subst, arith, length-set}
 use Rattle.quiet_core.specs.declared.deed.Deed.{Deed}
 use Rattle.quiet_core.specs.Account.{Shape, Account, account}
-use Rattle.quiet_core.specs.Step.{State, word, place, turn, turned, up, down, after, May, acted}
+use Rattle.quiet_core.specs.Step.{State, word, place, change, changed, up, down, after, May, acted}
 use Rattle.quiet_core.specs.Noted.{Roomy}
 use Rattle.quiet_core.specs.Entries.{Enters}
 use Rattle.quiet_core.specs.Balance.{Balance}
-use Rattle.quiet_core.specs.Clear.{Clear, AllClear}
-use Rattle.quiet_core.proofs.Sums.{each_turn}
-use Rattle.quiet_core.proofs.Clearing.{after_clear}
 use Rattle.quiet_core.proofs.Books.{get_or-any}
-use Rattle.quiet_core.proofs.Allowed.{sits, within, place_in, roomy, enters}
+use Rattle.quiet_core.proofs.Allowed.{sits, place_in, roomy, enters}
 use Rattle.quiet_core.proofs.Keeps.{keeps, up_fits, down_fits}
 
 module _ (t : Shape) (s : State) (h : ℕ) (d : Deed) (p : ℕ) (w : Balance t s) (lh : h < length s.accounts) (may : May t d (account s.accounts h)) (is : p ≡ place t d) where
@@ -24,10 +21,10 @@ module _ (t : Shape) (s : State) (h : ℕ) (d : Deed) (p : ℕ) (w : Balance t s
     pub found_is : x ≡ word s (place t d)
     found_is = reads ∙ get_or-any s.words p x 0 in_words ∙ ap (λ (k : ℕ). word s k) is
 
-    pub rises : (k : ℕ) → turn d ≡ up k → x + k < 2 ^ 64
+    pub rises : (k : ℕ) → change d ≡ up k → x + k < 2 ^ 64
     rises k e = let l = up_fits t s h a w (sits s.accounts h lh) d k may e in let f = found_is in omega arith
 
-    pub falls : (k : ℕ) → turn d ≡ down k → k ≤ x
+    pub falls : (k : ℕ) → change d ≡ down k → k ≤ x
     falls k e = let l = down_fits t s h a w (sits s.accounts h lh) d k may e in let f = found_is in omega arith
 
     pub has_room : Roomy d x a
@@ -36,10 +33,10 @@ module _ (t : Shape) (s : State) (h : ℕ) (d : Deed) (p : ℕ) (w : Balance t s
     pub may_enter : Enters t d x s.accounts h
     may_enter = subst (λ (k : ℕ). Enters t d k s.accounts h) (sym found_is) (enters t s h w lh d may)
 
-    module _ (y : ℕ) (ys : List Account) (becomes : y ≡ turned (turn d) x) (acts : ys ≡ set s.accounts h (after t d x a)) where
+    module _ (y : ℕ) (ys : List Account) (becomes : y ≡ changed (change d) x) (acts : ys ≡ set s.accounts h (after t d x a)) where
       pub state_is : record { words = set s.words p y; accounts = ys } ≡ acted t h a d s
-      state_is = let words : set s.words p y ≡ set s.words (place t d) (turned (turn d) (word s (place t d))) =
-          ap (λ (k : ℕ). set s.words k y) is ∙ ap (λ (v : ℕ). set s.words (place t d) v) (becomes ∙ ap (λ (k : ℕ). turned (turn d) k) found_is) in
+      state_is = let words : set s.words p y ≡ set s.words (place t d) (changed (change d) (word s (place t d))) =
+          ap (λ (k : ℕ). set s.words k y) is ∙ ap (λ (v : ℕ). set s.words (place t d) v) (becomes ∙ ap (λ (k : ℕ). changed (change d) k) found_is) in
           let accounts : ys ≡ set s.accounts h (after t d (word s (place t d)) a) = acts ∙ ap (λ (k : ℕ). set s.accounts h (after t d k a)) found_is in
           λ i. record { words = words i; accounts = accounts i }
 
@@ -48,7 +45,3 @@ module _ (t : Shape) (s : State) (h : ℕ) (d : Deed) (p : ℕ) (w : Balance t s
 
       pub hands_same : length ys ≡ length s.accounts
       hands_same = ap length acts ∙ length-set s.accounts h (after t d x a)
-
-      pub clear_still : AllClear t s.accounts → AllClear t ys
-      clear_still c = subst (λ (z : List Account). AllClear t z) (sym acts)
-          (each_turn (Clear t) s.accounts h (after t d x a) c (after_clear t d x a (within t s h w lh d may) (c h a (sits s.accounts h lh))))

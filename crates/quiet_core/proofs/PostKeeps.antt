@@ -6,6 +6,8 @@ use Rattle.quiet_core.specs.Account.{Shape, managers, scheduled, Mark, free, fre
 use Rattle.quiet_core.specs.declared.deed.Deed.TheVariants as deed
 use Rattle.quiet_core.specs.Step.{State, word, claim_at, coll_at, issued_at, after, May, acted}
 use Rattle.quiet_core.specs.Balance.{open_at, plain_at, owed_at, acked_at, ClaimsAt, UnitsAt, LettersAt, Balance}
+use Rattle.quiet_core.specs.Clear.{Clear}
+use Rattle.quiet_core.proofs.Clearing.{after_clear}
 use Rattle.quiet_core.proofs.Sums.{le_sum, le_below, sum_turn, each_turn, below_turn, pair_here, pair_beside, pair_apart, pair_below, rows_apart}
 use Rattle.quiet_core.proofs.Untouched.{split_at, mark_here, mark_beside, mark_apart, count_put, count_apart, next, weights_same, claims_same, issued_same, units_same, letters_same, collectors_same, climbs_same}
 use Rattle.quiet_core.proofs.Acks.{entered_one, open_in}
@@ -85,6 +87,7 @@ module _ (t : Shape) (s : State) (h : ℕ) (a : Account) (m i to n : ℕ) (w : B
         (λ l ne j ll lj. letters_same t s h a b at p (x + n) l j (row_else l j lj ne) (pair_apart a.posted m to l j (posts a m to + n) ne) (pair_apart a.known m to l j (x + n) ne) refl refl (w.letters l j ll lj));
     collectors = λ j l. collectors_same t s h a b at p (x + n) j (others (coll_at t j) (omega arith)) refl (w.collectors j l);
     climbs = climbs_same t s h a b at p (x + n) (λ c l. others c (omega arith)) (λ c. refl) refl w.climbs;
+    clear = each_turn (Clear t) s.accounts h b w.clear (after_clear t (deed.Post m i to n) x a (may.0, may.1) (w.clear h a at));
   }
 
   pub post_fits : x + n < 2 ^ 64

@@ -6,7 +6,9 @@ use Rattle.quiet_core.specs.Account.{Shape, managers, scheduled, root, told, Acc
 use Rattle.quiet_core.specs.declared.deed.Deed.TheVariants as deed
 use Rattle.quiet_core.specs.Step.{State, word, claim_at, coll_at, issued_at, put_mark, May, acted}
 use Rattle.quiet_core.specs.Balance.{open_at, plain_at, owed_at, acked_at, ClaimsAt, UnitsAt, Balance}
-use Rattle.quiet_core.proofs.Sums.{le_sum, le_below, sum_turn}
+use Rattle.quiet_core.specs.Clear.{Clear}
+use Rattle.quiet_core.proofs.Clearing.{put_clear}
+use Rattle.quiet_core.proofs.Sums.{each_turn, le_sum, le_below, sum_turn}
 use Rattle.quiet_core.proofs.Untouched.{split_at, mark_here, mark_beside, mark_apart, count_put, count_apart, next, weights_same, claims_same, issued_same, units_same, letters_same, collectors_same, climbs_alive}
 use Rattle.quiet_core.proofs.Acks.{open_in, one_left}
 
@@ -60,8 +62,11 @@ module _ (t : Shape) (s : State) (h : ℕ) (a : Account) (m i n : ℕ) (w : Bala
         (count_apart opened a m k i (scheduled t k) (told n) ne) (count_apart plain a m k i (scheduled t k) (told n) ne) (count_apart owing a m k i (scheduled t k) (told n) ne) refl (w.units k l));
     letters = λ k j lk lj. letters_same t s h a b at m (x + n) k j (others (issued_at t k j) (omega arith)) refl refl refl refl (w.letters k j lk lj);
     collectors = λ k l. collectors_same t s h a b at m (x + n) k (others (coll_at t k) (omega arith)) refl (w.collectors k l);
-    climbs = climbs_alive t s h a b at m (x + n) (split_at (λ c. c ≤ root t → min (word s' c) 1 ≡ min (word s c) 1) m (λ l. let e = here in let o = one_left t s w h a at m i lm open_now in omega arith) (λ c ne l. let e = others c ne in omega arith))
+    climbs = climbs_alive t s h a b at m (x + n)
+        (split_at (λ c. c ≤ root t → min (word s' c) 1 ≡ min (word s c) 1) m
+        (λ l. let e = here in let o = one_left t s w h a at m i lm open_now in omega arith) (λ c ne l. let e = others c ne in omega arith))
         (λ j l u. others j (omega arith)) (λ c. refl) refl w.climbs;
+    clear = each_turn (Clear t) s.accounts h b w.clear (put_clear t a m i (told n) may.0 (w.clear h a at));
   }
 
   pub raise_fits : x + n < 2 ^ 64

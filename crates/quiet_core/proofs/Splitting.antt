@@ -11,6 +11,8 @@ use Rattle.quiet_core.specs.Balance.{Each, past, open_at, plain_at, owed_at, ack
 use Rattle.quiet_core.proofs.Sums.{sum_turns, each_turn}
 use Rattle.quiet_core.proofs.Untouched.{cond_le, past_none}
 -- the accounts ys have the sums of xs, and are as good
+use Rattle.quiet_core.specs.Clear.{Clear}
+use Rattle.quiet_core.proofs.Clearing.{blank_clear}
 use Rattle.quiet_core.proofs.Parting.{alike_keeps}
 
 at_snoc : {A : Type 0} (l : List A) (a b : A) (j : ℕ) → get_elem? (l ++ a ∷ []) j ≡ some b → (get_elem? l j ≡ some b) ⊎ (a ≡ b)
@@ -50,6 +52,7 @@ module _ (t : Shape) (s : State) (w : Balance t s) where
     acked = λ m n lm ln. old (λ a. acks a m n ≤ max (knows a m n) (posts a m n)) (w.letters m n lm ln).acked (let z = acks_none t m n in omega arith);
     duties = λ c. same (λ (a : Account). bit (has_duty a c)) (ap bit (duty_none t c));
     tops = same (λ (a : Account). bit a.at_root) refl;
+    clear = old (Clear t) w.clear (blank_clear t 0);
   }
 
 -- a is cut into a part that keeps all but one unit of weight, and a new part that knows k at most
@@ -91,14 +94,19 @@ module _ (t : Shape) (s : State) (h g : ℕ) (a : Account) (x : Bool) (k : List 
     acked = λ m n lm ln. each (λ y. acks y m n ≤ max (knows y m n) (posts y m n)) (w.letters m n lm ln).acked (λ p. p) (λ p. let z = acks_none t m n in omega arith);
     duties = λ c. kept (λ (y : Account). bit (has_duty y c)) (ap bit (duty_none t c)) refl (ap bit (duty_none t c));
     tops = kept (λ (y : Account). bit y.at_root) refl refl refl;
+    clear = each (Clear t) w.clear (λ p. record { marks = p.marks; posted = p.posted; acked = p.acked; collected = p.collected })
+        (λ p. record { marks = λ m i. inl (mark_none t m i); posted = λ m n. inl (posts_none t m n); acked = λ m n. inl (acks_none t m n); collected = λ n. inl (collects_none t n) });
   }
 
 module _ (t : Shape) (s : State) (h g : ℕ) (a : Account) (w : Balance t s) (at : get_elem? s.accounts h ≡ some a) (ne : g ≢ h) (at' : get_elem? s.accounts g ≡ some (blank t)) (two : 2 ≤ a.weight) where
   pub split_keeps : Balance t (split t h a g s)
   split_keeps = parts_keep t s h g a true a.known w at ne at' two (λ m n. omega arith)
-      (λ m. let e : past m (kept_part a) ≡ a.weight - 1 = ap (λ (b : Bool). cond b (a.weight - 1) 0) (or_all (has_met a m)) in let f : past m (new_part t a) ≡ 1 = ap (λ (b : Bool). cond b 1 0) (or_all (has_met (blank t) m)) in let o = cond_le (has_met a m || a.collecting) a.weight in omega arith)
+      (λ m. let e : past m (kept_part a) ≡ a.weight - 1 = ap (λ (b : Bool). cond b (a.weight - 1) 0) (or_all (has_met a m)) in
+      let f : past m (new_part t a) ≡ 1 = ap (λ (b : Bool). cond b 1 0) (or_all (has_met (blank t) m)) in
+      let o = cond_le (has_met a m || a.collecting) a.weight in omega arith)
 
   -- a split of an account that has nothing but weight leaves both parts not collecting
   pub opening_keeps : a ≡ record (blank t) { weight = a.weight } → Balance t record { words = s.words; accounts = set (set s.accounts h (record (blank t) { weight = a.weight - 1 })) g (record (blank t) { weight = 1 }) }
   opening_keeps is = subst (λ (b : Account). Balance t record { words = s.words; accounts = set (set s.accounts h b) g (record (blank t) { weight = 1 }) }) (λ i. record (is i) { weight = a.weight - 1; collecting = false })
-      (parts_keep t s h g a false no_pairs w at ne at' two (λ m n. let z = knows_none t m n in omega arith) (λ m. let e : past m a ≡ 0 = ap (past m) is ∙ past_none (record (blank t) { weight = a.weight }) m (met_none t m) refl in omega arith))
+      (parts_keep t s h g a false no_pairs w at ne at' two (λ m n. let z = knows_none t m n in omega arith)
+      (λ m. let e : past m a ≡ 0 = ap (past m) is ∙ past_none (record (blank t) { weight = a.weight }) m (met_none t m) refl in omega arith))

@@ -21,7 +21,7 @@ root t = length t.parents
 abbrev pub parent : Shape → ℕ → ℕ
 parent t c = slice_index t.parents c
 
--- What became of a scheduled number at a hand: nothing; claimed, with nothing announced; claimed, with so many letters announced and not posted; reported; entered by two hands that joined, which the balance rules out
+-- What became of a scheduled actor at a hand: nothing; claimed, with nothing announced; claimed, with so many letters announced and not posted; reported; entered by two hands that joined, which the balance rules out
 pub data Mark : Type 0 where
   free : Mark
   fresh : Mark
@@ -35,9 +35,9 @@ pub record Account : Type 0 where
   pub weight : ℕ
   -- whether it claims no more
   pub collecting : Bool
-  -- by manager, whether it found every number claimed
+  -- by manager, whether it found every actor claimed
   pub exhausted : List Bool
-  -- by manager and number, what became of the scheduled actors
+  -- by manager, and by the place among those scheduled there, what became of the scheduled actors
   pub marks : List (List Mark)
   -- by the manager of the senders and that of the recipients, how many letters it posted, knows to be posted, and acknowledged
   pub posted : List (List ℕ)
@@ -86,7 +86,7 @@ nobody = blank no_actors
 abbrev pub account : List Account → ℕ → Account
 account xs h = get_or xs h nobody
 
--- what an account says of a number, a manager, a pair or a node
+-- what an account says of an actor, a manager, a pair or a node
 abbrev pub mark : Account → ℕ → ℕ → Mark
 mark a m i = get_or (get_or a.marks m []) i free
 
@@ -108,7 +108,7 @@ collects a n = get_or a.collected n 0
 abbrev pub has_duty : Account → ℕ → Bool
 has_duty a c = get_or a.duties c false
 
--- 1 where the number was claimed, is open, is open with nothing announced; the letters that are announced and not posted
+-- 1 where the actor was claimed, is open, is open with nothing announced; the letters that are announced and not posted
 abbrev pub entered : Mark → ℕ
 entered free = 0
 entered fresh = 1

@@ -53,13 +53,13 @@ marked t (deed.Look m n) x a = a
 marked t (deed.Ack m n k) x a = a
 marked t (deed.Climb c) x a = a
 
--- the number i of m is scheduled, and no hand but h has it
+-- the actor i of m is scheduled, and no hand but h has it
 pub record Alone (t : Shape) (xs : List Account) (h m i : ℕ) : Type 0 where
   pub manager : m < managers t
   pub inside : i < scheduled t m
   pub others : (g : ℕ) → g < length xs → g ≢ h → mark (account xs g) m i ≡ free
 
--- the number that a deed enters is no other hand's
+-- the actor that a deed enters is no other hand's
 abbrev pub Enters : Shape → Deed → ℕ → List Account → ℕ → Type 0
 Enters t (deed.Claim m) x xs h = (m < managers t) × (x < scheduled t m → Alone t xs h m x)
 Enters t (deed.Raise m i n) x xs h = Alone t xs h m i

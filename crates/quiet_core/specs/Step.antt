@@ -27,17 +27,17 @@ abbrev pub word_count : Shape → ℕ
 word_count t = root t + 1 + managers t + managers t + managers t * managers t
 
 -- what becomes of a word
-pub data Turn : Type 0 where
-  up : ℕ → Turn
-  down : ℕ → Turn
-  becomes : ℕ → Turn
-  stays : Turn
+pub data Change : Type 0 where
+  up : ℕ → Change
+  down : ℕ → Change
+  becomes : ℕ → Change
+  stays : Change
 
-abbrev pub turned : Turn → ℕ → ℕ
-turned (up k) x = x + k
-turned (down k) x = x - k
-turned (becomes v) x = v
-turned stays x = x
+abbrev pub changed : Change → ℕ → ℕ
+changed (up k) x = x + k
+changed (down k) x = x - k
+changed (becomes v) x = v
+changed stays x = x
 
 -- the word of a deed, and what becomes of it
 abbrev pub place : Shape → Deed → ℕ
@@ -50,23 +50,23 @@ place t (deed.Look m n) = issued_at t m n
 place t (deed.Ack m n k) = m
 place t (deed.Climb c) = parent t c
 
-abbrev pub turn : Deed → Turn
-turn (deed.Claim m) = up 1
-turn (deed.Raise m i n) = up n
-turn (deed.Post m i to n) = up n
-turn (deed.Done m i) = down 1
-turn (deed.Collect n) = becomes 1
-turn (deed.Look m n) = stays
-turn (deed.Ack m n k) = down k
-turn (deed.Climb c) = down 1
+abbrev pub change : Deed → Change
+change (deed.Claim m) = up 1
+change (deed.Raise m i n) = up n
+change (deed.Post m i to n) = up n
+change (deed.Done m i) = down 1
+change (deed.Collect n) = becomes 1
+change (deed.Look m n) = stays
+change (deed.Ack m n k) = down k
+change (deed.Climb c) = down 1
 
--- the number i of m becomes k at a hand
+-- the actor i of m becomes k at a hand
 abbrev pub put_mark : Account → ℕ → ℕ → Mark → Account
 put_mark a m i k = record a { marks = put [] a.marks m (put free (get_or a.marks m []) i k) }
 
 -- the account, where the word of the node j has become x
-abbrev pub settled : Shape → ℕ → ℕ → Account → Account
-settled t j x a = cond (eqb x 0) (cond (eqb j (root t)) (record a { at_root = true }) (record a { duties = put false a.duties j true })) a
+abbrev pub reached : Shape → ℕ → ℕ → Account → Account
+reached t j x a = cond (eqb x 0) (cond (eqb j (root t)) (record a { at_root = true }) (record a { duties = put false a.duties j true })) a
 
 -- the account after a deed that found x
 abbrev pub after : Shape → Deed → ℕ → Account → Account
@@ -77,11 +77,11 @@ after t (deed.Post m i to n) x a = record a {
   posted = put_pair a.posted m to (posts a m to + n);
   known = put_pair a.known m to (x + n);
 }
-after t (deed.Done m i) x a = settled t m (x - 1) (put_mark a m i reported)
+after t (deed.Done m i) x a = reached t m (x - 1) (put_mark a m i reported)
 after t (deed.Collect n) x a = cond (eqb x 0) (record a { collected = put 0 a.collected n 1 }) a
 after t (deed.Look m n) x a = record a { known = put_pair a.known m n x }
-after t (deed.Ack m n k) x a = settled t m (x - k) (record a { acked = put_pair a.acked m n (acks a m n + k) })
-after t (deed.Climb c) x a = settled t (parent t c) (x - 1) (record a { duties = put false a.duties c false })
+after t (deed.Ack m n k) x a = reached t m (x - k) (record a { acked = put_pair a.acked m n (acks a m n + k) })
+after t (deed.Climb c) x a = reached t (parent t c) (x - 1) (record a { duties = put false a.duties c false })
 
 -- the conditions of a deed on the account of its hand
 abbrev pub May : Shape → Deed → Account → Type 0
@@ -96,9 +96,9 @@ May t (deed.Climb c) a = (c ≤ root t) × (1 ≤ a.weight) × (has_duty a c ≡
 
 -- the hand h, whose account is a, does d
 abbrev pub acted : Shape → ℕ → Account → Deed → State → State
-acted t h a d s = record { words = set s.words (place t d) (turned (turn d) (word s (place t d))); accounts = set s.accounts h (after t d (word s (place t d)) a) }
+acted t h a d s = record { words = set s.words (place t d) (changed (change d) (word s (place t d))); accounts = set s.accounts h (after t d (word s (place t d)) a) }
 
--- a number at two hands that join
+-- an actor at two hands that join
 abbrev pub meet : Mark → Mark → Mark
 meet free l = l
 meet k free = k

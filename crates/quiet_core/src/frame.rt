@@ -1,4 +1,4 @@
-ghost use Rattle.std.specs.Prelude.{◌≡◌, ◌<◌, ◌≤◌, ◌+◌, ◌^◌, ℕ, length, IfOk};
+ghost use Rattle.std.specs.Prelude.{◌≡◌, ◌<◌, ◌≤◌, ◌+◌, ◌^◌, ℕ, length};
 ghost use Rattle.quiet_core.specs.Account.{managers, scheduled, root, parent};
 ghost use Rattle.quiet_core.specs.Step.{word_count, claim_at, coll_at, issued_at, place};
 ghost use Rattle.quiet_core.specs.Balance.{Sized};
@@ -8,53 +8,60 @@ ghost use Rattle.quiet_core.specs.Opening.{shape_over};
 ghost use Rattle.quiet_core.specs.Noted.{Within};
 
 use crate::deed::Deed;
+use crate::ledger::NODES;
+use crate::pairs::MANAGERS;
 use manager_tree::Tree;
-use sim_base::{Memory, NodeId};
-use std::alloc::Global;
 use std::marker::Model;
 
 /// The shape of a round: how many actors are scheduled at each manager, the parent of each node but
-/// the root, and how many hands there are.
+/// the root, and how many hands there are. It is made anew for each round, so it takes no memory.
 #[derive(Drop)]
 pub struct Frame {
-    scheduled: Vec<u32>,
-    parents: Vec<u32>,
+    managers: usize,
+    root: usize,
     hands: u32,
+    // By manager, and by node. What stands behind those of the round is not read.
+    scheduled: [u32; MANAGERS],
+    parents: [u32; NODES],
 }
 
 impl Model for Frame {
+    ghost use Rattle.std.specs.Prelude.{◌≤◌, take};
     ghost use Rattle.quiet_core.specs.Account.{Shape};
 
     ghost Value = { Shape };
 
-    ghost view = { λ f. record { sched = f.scheduled.items; parents = f.parents.items; hands = f.hands } };
+    ghost view = { λ f. record { sched = take f.managers f.scheduled; parents = take f.root f.parents; hands = f.hands } };
+
+    ghost invariant = { λ f. (f.managers ≤ 16) × (f.root ≤ 31) };
 }
 
 impl Frame {
-    /// The frame of a round over a tree, whose leaves are the managers. Err is want of memory.
-    pub fn of(alloc: Global, tree: &Tree, scheduled: &[u32], hands: u32) -> Result<Frame, Memory>
-        ensures shape { IfOk result (λ frame. frame ≡ shape_over tree.now scheduled.now hands) }
-        ensures tree { IfOk result (λ _. IsTree tree.now) }
+    /// The frame of a round over a tree, whose leaves are the managers.
+    pub fn of(tree: &Tree, scheduled: &[u32], hands: u32) -> Frame
+        requires leaves { length scheduled.now ≡ tree.now.leaves }
+        ensures shape { result ≡ shape_over tree.now scheduled.now hands }
+        ensures tree { IsTree tree.now }
     {
-        let mut parents = Vec::with_capacity(alloc, tree.root().0 as usize)?;
-        let mut node = 0;
-        while let Some(parent) = tree.parent(NodeId(node)) {
-            parents.push(parent.0)?;
-            node += 1;
-        }
-        let scheduled = scheduled.to_vec(alloc)?;
-        Ok(Frame {
-            scheduled,
-            parents,
+        let above = tree.parents();
+        let mut parents = [0; NODES];
+        parents[..above.len()].copy_from_slice(above);
+        let mut numbers = [0; MANAGERS];
+        numbers[..scheduled.len()].copy_from_slice(scheduled);
+        Frame {
+            managers: scheduled.len(),
+            root: above.len(),
             hands,
-        })
+            scheduled: numbers,
+            parents,
+        }
     }
 
     /// How many managers.
     pub fn managers(&self) -> usize
         ensures { result ≡ managers self.now }
     {
-        self.scheduled.len()
+        self.managers
     }
 
     /// How many actors are scheduled at a manager.
@@ -69,7 +76,7 @@ impl Frame {
     pub fn root(&self) -> usize
         ensures { result ≡ root self.now }
     {
-        self.parents.len()
+        self.root
     }
 
     /// The node above a node that isn't the root.

@@ -1,7 +1,7 @@
 ghost use Rattle.std.specs.Prelude.{◌≡◌, ◌<◌, ◌≤◌, ◌+◌, ◌^◌, true, false, cond, eqb, ltb};
 ghost use Rattle.quiet_core.specs.Account.{blank, no_actors, has_met, posts, knows, acks, collects, has_duty, managers, scheduled};
 ghost use Rattle.quiet_core.specs.Rows.{put, put_pair};
-ghost use Rattle.quiet_core.specs.Step.{settled, united, kept_part, new_part};
+ghost use Rattle.quiet_core.specs.Step.{reached, united, kept_part, new_part};
 ghost use Rattle.quiet_core.specs.Balance.{Sized};
 ghost use Rattle.quiet_core.specs.Noted.{noted, Within, Roomy, RoomyBoth};
 
@@ -12,7 +12,7 @@ use crate::rows::{add_row, join_row};
 use std::marker::Model;
 
 /// The most nodes of a round.
-const NODES: usize = 31;
+pub(crate) const NODES: usize = 31;
 
 /// What a hand has done, but for the actors that it claimed and reported.
 #[derive(Drop)]
@@ -160,9 +160,9 @@ impl Ledger {
     }
 
     // The word of a node has become `left`: where that is 0, a duty is held there, or Root.
-    fn settle(&mut self, frame: &Frame, node: usize, left: u64)
+    fn reach(&mut self, frame: &Frame, node: usize, left: u64)
         requires { node < 31 }
-        ensures { self.new ≡ settled frame.now node left self.old }
+        ensures { self.new ≡ reached frame.now node left self.old }
     {
         if left == 0 {
             if node == frame.root() {
@@ -215,16 +215,16 @@ impl Ledger {
             Deed::Post { m, to, n, .. } => {
                 self.note_post(m as usize, to as usize, n as u64, found + n as u64)
             }
-            Deed::Done { m, .. } => self.settle(frame, m as usize, found - 1),
+            Deed::Done { m, .. } => self.reach(frame, m as usize, found - 1),
             Deed::Collect { to } => self.note_collect(to as usize, found),
             Deed::Look { m, to } => self.note_look(m as usize, to as usize, found),
             Deed::Ack { m, to, n } => {
                 self.note_ack(m as usize, to as usize, n);
-                self.settle(frame, m as usize, found - n)
+                self.reach(frame, m as usize, found - n)
             }
             Deed::Climb { node } => {
                 self.relieve(node as usize);
-                self.settle(frame, frame.parent(node) as usize, found - 1)
+                self.reach(frame, frame.parent(node) as usize, found - 1)
             }
         }
     }

@@ -1,6 +1,6 @@
 ghost use Rattle.std.specs.Prelude.{◌≡◌, ◌≢◌, ◌<◌, ◌≤◌, ◌+◌, ◌^◌, ℕ, length, slice_index, true, IfOk};
 ghost use Rattle.quiet_core.specs.Account.{account};
-ghost use Rattle.quiet_core.specs.Step.{May, acted, place, turn, turned, up, down, word};
+ghost use Rattle.quiet_core.specs.Step.{May, acted, place, change, changed, up, down, word};
 ghost use Rattle.quiet_core.specs.Balance.{Balance, Sized};
 ghost use Rattle.quiet_core.specs.Opening.{IsOpened, Somebody, shape_over};
 ghost use Rattle.quiet_core.specs.Quiet.{Quiet};
@@ -31,21 +31,20 @@ pub struct Core {
 impl Model for Core {
     ghost use Rattle.std.specs.Prelude.{◌≡◌, ◌<◌, length};
     ghost use Rattle.quiet_core.specs.Balance.{Balance};
-    ghost use Rattle.quiet_core.specs.Clear.{AllClear};
     ghost use Rattle.quiet_core.specs.Event.{Standing};
 
     ghost Value = { Standing };
 
     ghost view = { λ c. record { shape = c.frame; state = record { words = c.words.items; accounts = c.accounts.accounts } } };
 
-    ghost invariant = { λ c. Balance c.frame record { words = c.words.items; accounts = c.accounts.accounts } × (c.accounts.sched ≡ c.frame.sched) × (length c.accounts.accounts ≡ c.frame.hands) × AllClear c.frame c.accounts.accounts };
+    ghost invariant = { λ c. Balance c.frame record { words = c.words.items; accounts = c.accounts.accounts } × (c.accounts.sched ≡ c.frame.sched) × (length c.accounts.accounts ≡ c.frame.hands) };
 }
 
 // What becomes of the word of a deed.
-fn turned(deed: Deed, word: u64) -> u64
-    requires up { (k : ℕ) → turn deed ≡ up k → word + k < 2 ^ 64 }
-    requires down { (k : ℕ) → turn deed ≡ down k → k ≤ word }
-    ensures { result ≡ turned (turn deed) word }
+fn changed(deed: Deed, word: u64) -> u64
+    requires up { (k : ℕ) → change deed ≡ up k → word + k < 2 ^ 64 }
+    requires down { (k : ℕ) → change deed ≡ down k → k ≤ word }
+    ensures { result ≡ changed (change deed) word }
 {
     match deed {
         Deed::Claim { .. } => word + 1,
@@ -71,7 +70,7 @@ impl Core {
         requires most_hands { hands ≤ 64 }
         ensures opening { IfOk result (λ core. IsOpened (shape_over tree.now scheduled.now hands) core) }
     {
-        let frame = Frame::of(alloc, tree, scheduled, hands)?;
+        let frame = Frame::of(tree, scheduled, hands);
         Core::over(alloc, frame)
     }
 
@@ -81,7 +80,7 @@ impl Core {
         requires somebody { Somebody frame }
         ensures { IfOk result (λ core. IsOpened frame core) }
     {
-        let words = opening_words(alloc, &frame)?;
+        let words = opening_words(Vec::new(alloc), &frame)?;
         let accounts = Accounts::of(alloc, &frame)?;
         Ok(Core {
             frame,
@@ -128,7 +127,7 @@ impl Core {
     {
         let at = self.frame.place(deed);
         let found = self.words[at];
-        self.words[at] = turned(deed, found);
+        self.words[at] = changed(deed, found);
         self.accounts.act(&self.frame, hand, deed, found);
         found
     }

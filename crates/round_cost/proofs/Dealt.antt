@@ -1,9 +1,9 @@
 -- What hands keep through the calls of a moment.
-use Rattle.std.proofs.Common.{◌≡◌, ◌≢◌, ℕ, suc, ◌+◌, ◌-◌, ◌≤◌, Bool, true, false, List, get_or, [], ◌∷◌, length, replicate, refl, sym, ap, ◌∙◌, subst, arith}
+use Rattle.std.proofs.Common.{◌≡◌, ℕ, ◌+◌, ◌-◌, List, [], ◌∷◌, length, replicate, refl, sym, ap, ◌∙◌, subst, arith}
 use Rattle.std.specs.List.{All}
 use Rattle.std.proofs.lemmas.List.Elements.{All-head, All-tail, All-same, All-replicate}
 use Rattle.std.proofs.lemmas.List.{length-replicate}
-use Rattle.quiet_core.specs.Account.{Shape, Mark, fresh, Account, has_met}
+use Rattle.quiet_core.specs.Account.{Shape, Mark, fresh, Account}
 use Rattle.quiet_core.specs.Step.{put_mark}
 use Rattle.quiet_core.proofs.Blank.{met_none}
 use Rattle.quiescence.specs.declared.answers.After.{After}

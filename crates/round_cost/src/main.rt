@@ -11,7 +11,7 @@ mod moments;
 mod plain;
 
 use manager_tree::Tree;
-use moments::{is_closed, scheduled_at};
+use moments::{close_one, scheduled_at};
 use plain::is_over;
 use sim_base::Memory;
 use std::alloc::Global;
@@ -41,7 +41,16 @@ fn number(word: Option<String>, least: u32, most: u32) -> u32
     number.clamp(least, most)
 }
 
-// How many of the moments were over.
+// How many moments of the plain form were over.
+fn count_plain(scheduled: &[u32], asked: &Asked) -> u32 {
+    let mut over = 0u32;
+    for _ in 0..asked.times {
+        over = over.saturating_add(u32::from(is_over(scheduled, u64::from(asked.letters))));
+    }
+    over
+}
+
+// How many moments were over, before one that was not.
 fn count(alloc: Global, asked: &Asked) -> Result<u32, Memory>
     requires managers { (1 ≤ asked.now.managers) × (asked.now.managers ≤ 16) }
     requires hands { (1 ≤ asked.now.hands) × (asked.now.hands ≤ 64) }
@@ -52,14 +61,18 @@ fn count(alloc: Global, asked: &Asked) -> Result<u32, Memory>
     let tree = Tree::of(alloc, asked.managers, 2)?;
     let scheduled = scheduled_at(alloc, &tree, asked.first, asked.other)?;
     let scheduled = scheduled.as_slice();
+    if asked.plain {
+        return Ok(count_plain(scheduled, asked));
+    }
+    let mut words = Vec::new(alloc);
     let mut over = 0u32;
     for _ in 0..asked.times {
-        let is_over = if asked.plain {
-            is_over(scheduled, u64::from(asked.letters))
-        } else {
-            is_closed(alloc, &tree, scheduled, asked.hands, asked.letters)?
+        let Some(left) = close_one(alloc, words, &tree, scheduled, asked.hands, asked.letters)?
+        else {
+            return Ok(over);
         };
-        over = over.saturating_add(u32::from(is_over));
+        words = left;
+        over = over.saturating_add(1);
     }
     Ok(over)
 }

@@ -60,7 +60,8 @@ fn act_one(round: &Round, hand: &mut Hand, m: ManagerId, i: u32, to: ManagerId, 
     round.climb_up(hand, after);
 }
 
-// Claims the actors of a manager until there is none, and lets each act.
+// Claims the actors of a manager until there is none, and lets each act. Where nobody is scheduled
+// there is nothing to claim.
 fn act_at(round: &Round, hand: &mut Hand, m: ManagerId, to: ManagerId, n: u32)
     requires of { hand.old.round ≡ round.now }
     requires weight { hand.old.account.weight ≡ 1 }
@@ -73,6 +74,9 @@ fn act_at(round: &Round, hand: &mut Hand, m: ManagerId, to: ManagerId, n: u32)
     ensures claims { hand.new.account.collecting ≡ false }
     ensures others { (k : ℕ) → k ≢ m.0 → has_met hand.new.account k ≡ has_met hand.old.account k }
 {
+    if round.scheduled(m) == 0 {
+        return;
+    }
     for _ in 0..1_000_001 {
         let Claim::Claimed(i) = round.claim(hand, m) else {
             return;
@@ -127,12 +131,38 @@ fn take_in(round: &Round, hand: &mut Hand, to: ManagerId)
     }
 }
 
-// Takes in the letters to a manager, if it is this hand's turn.
+// Whether there are letters from one manager to another.
+fn has_letters(round: &Round, hand: &mut Hand, m: ManagerId, to: ManagerId) -> bool
+    requires one { One round.now hand.old }
+    requires managers { (m.0 < managers round.now.shape) × (to.0 < managers round.now.shape) }
+    ensures { One round.now hand.new }
+{
+    round.scheduled(m) > 0 && round.look(hand, m, to) > 0
+}
+
+// Whether there are letters to a manager.
+fn is_awaited(round: &Round, hand: &mut Hand, to: ManagerId) -> bool
+    requires one { One round.now hand.old }
+    requires manager { to.0 < managers round.now.shape }
+    ensures { One round.now hand.new }
+{
+    for m in 0..round.managers() as u32 {
+        if has_letters(round, hand, ManagerId(m), to) {
+            return true;
+        }
+    }
+    false
+}
+
+// Takes in the letters to a manager, if there are any and it is this hand's turn.
 fn collect_for(round: &Round, hand: &mut Hand, to: ManagerId)
     requires one { One round.now hand.old }
     requires manager { to.0 < managers round.now.shape }
     ensures { One round.now hand.new }
 {
+    if !is_awaited(round, hand, to) {
+        return;
+    }
     let Turn::Yours = round.collect(hand, to) else {
         return;
     };
@@ -193,14 +223,15 @@ fn deal(round: &Round, hands: Vec<Hand>) -> Result<Vec<Hand>, Memory>
     Ok(dealt)
 }
 
-/// A whole moment: whether its round was closed.
-pub(crate) fn is_closed(
+/// A whole moment, on the block of the one before: the block of its words, if its round was closed.
+pub(crate) fn close_one(
     alloc: Global,
+    words: Vec<u64>,
     tree: &Tree,
     scheduled: &[u32],
     hands: u32,
     letters: u32,
-) -> Result<bool, Memory>
+) -> Result<Option<Vec<u64>>, Memory>
     requires leaves { length scheduled.now ≡ tree.now.leaves }
     requires few { (m : ℕ) → m < length scheduled.now → slice_index scheduled.now m ≤ 1000000 }
     requires somebody { (0 < length scheduled.now) × (1 ≤ slice_index scheduled.now 0) }
@@ -208,9 +239,12 @@ pub(crate) fn is_closed(
     requires most_hands { hands ≤ 64 }
     requires letters { letters ≤ 1024 }
 {
-    let (round, hands) = Round::open(alloc, tree, scheduled, hands)?;
+    let (round, hands) = Round::open_on(alloc, words, tree, scheduled, hands)?;
     let hands = act_all(alloc, &round, hands, letters)?;
     let hands = deal(&round, hands)?;
     let hands = collect_all(alloc, &round, hands)?;
-    Ok(round.finish(hands).is_ok())
+    match round.finish(hands) {
+        Ok(closed) => Ok(Some(closed.into_words())),
+        Err(_) => Ok(None),
+    }
 }

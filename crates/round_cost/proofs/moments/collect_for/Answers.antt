@@ -4,4 +4,4 @@ use Rattle.quiet_core.proofs.Sums.{put_here}
 use Rattle.round_cost.proofs.moments.collect_for.Goals as goal
 
 pub take_in-requires-clause-collects : goal.take_in-requires-clause-collects
-take_in-requires-clause-collects c = ap (λ (a : Account). collects a c.args.to.0) c.in-Yours.ensures.turn.1 ∙ put_here 0 c.args.hand.now.account.collected c.args.to.0 1
+take_in-requires-clause-collects c = ap (λ (a : Account). collects a c.args.to.0) c.in-Yours.ensures.turn.1 ∙ put_here 0 c.is_awaited.new.hand.account.collected c.args.to.0 1

@@ -1,4 +1,4 @@
-use Rattle.std.proofs.Common.{◌∙◌, arith}
+use Rattle.std.proofs.Common.{◌∙◌}
 use Rattle.round_cost.proofs.Dealt.{joint_weight}
 use Rattle.round_cost.proofs.moments.deal.Goals as goal
 

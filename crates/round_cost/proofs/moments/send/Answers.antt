@@ -1,4 +1,4 @@
-use Rattle.std.proofs.Common.{◌≡◌, ℕ, ◌-◌, ap, ◌∙◌, arith}
+use Rattle.std.proofs.Common.{◌≡◌, ap, arith}
 use Rattle.quiet_core.specs.Account.{told, mark, opened, owing}
 use Rattle.quiescence.proofs.Readers.{raised_told, mark_posted}
 use Rattle.round_cost.proofs.moments.send.Goals as goal

@@ -1,4 +1,4 @@
-use Rattle.std.proofs.Common.{◌≡◌, ◌∙◌, sum, sym, ap}
+use Rattle.std.proofs.Common.{◌∙◌, sum, sym, ap}
 use Rattle.quiescence.specs.Ended.{Closing}
 use Rattle.quiescence.proofs.Totals.{sum_is_below}
 use Rattle.quiescence.proofs.ended.Closed.all_scheduled.Goals as goal

@@ -1,5 +1,5 @@
 use Rattle.std.proofs.Common.{arith, ◌∙◌}
-use Rattle.quiescence.proofs.Learns.{settled_is, holds_it}
+use Rattle.quiescence.proofs.Learns.{reached_is, holds_it}
 use Rattle.quiescence.proofs.Keeping.{event, still_hand, now_learnt}
 use Rattle.quiescence.proofs.Learns.{ack_found}
 use Rattle.quiescence.proofs.Keeping.{acked_fits}
@@ -15,10 +15,12 @@ pub invariant_of-hand : goal.invariant_of-hand
 invariant_of-hand c = still_hand _ _ _ _ _ _ _ _ _ c.hand.view_is c.requires.of c.requires.may c.hand.invariant c.sub-found.ensures.plays _ _ (omega arith) (omega arith)
 
 pub returns-clause-acked : goal.returns-clause-acked
-returns-clause-acked c = let e = event _ _ _ _ _ _ _ _ _ c.hand.view_is c.requires.of c.requires.may c.hand.invariant c.sub-found.ensures.plays in e.account ∙ settled_is c.args.self.now.shape _ _ _ _ c.after.ensures
+returns-clause-acked c = let e = event _ _ _ _ _ _ _ _ _ c.hand.view_is c.requires.of c.requires.may c.hand.invariant c.sub-found.ensures.plays in e.account ∙ reached_is c.args.self.now.shape _ _ _ _ c.after.ensures
 
 pub returns-clause-holds : goal.returns-clause-holds
-returns-clause-holds c = let e = event _ _ _ _ _ _ _ _ _ c.hand.view_is c.requires.of c.requires.may c.hand.invariant c.sub-found.ensures.plays in holds_it c.args.self.now.shape _ _ _ _ _ c.after.ensures (e.account ∙ settled_is c.args.self.now.shape _ _ _ _ c.after.ensures)
+returns-clause-holds c =
+    let e = event _ _ _ _ _ _ _ _ _ c.hand.view_is c.requires.of c.requires.may c.hand.invariant c.sub-found.ensures.plays in
+    holds_it c.args.self.now.shape _ _ _ _ _ c.after.ensures (e.account ∙ reached_is c.args.self.now.shape _ _ _ _ c.after.ensures)
 
 pub returns-clause-event : goal.returns-clause-event
 returns-clause-event c = let e = event _ _ _ _ _ _ _ _ _ c.hand.view_is c.requires.of c.requires.may c.hand.invariant c.sub-found.ensures.plays in

@@ -1,5 +1,5 @@
-use Rattle.std.proofs.Common.{◌≡◌, ◌≢◌, ℕ, false, ◌∙◌, subst}
-use Rattle.quiet_core.specs.Account.{root, has_duty}
+use Rattle.std.proofs.Common.{◌≡◌, ◌≢◌, ℕ, false, subst}
+use Rattle.quiet_core.specs.Account.{has_duty}
 use Rattle.quiescence.specs.declared.answers.After.{After}
 use Rattle.quiescence.specs.Answers.{OnlyDuty}
 use Rattle.quiescence.proofs.Climbs.{only_climbed, climb_rest, more_rest}

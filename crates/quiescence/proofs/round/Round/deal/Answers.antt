@@ -19,7 +19,9 @@ loop-k-preserved c =
       ap (λ (h : Holding). h.round) kept ∙ i.0,
       ap (λ (h : Holding). h.account) kept ∙ ap (λ (w : ℕ). record (blank t) { weight = w }) same,
       omega arith,
-      c.in_ok-push.ensures.items ∙ ap (λ l. l ++ c.new_hand-hand.result ∷ []) i.3 ∙ ap (λ (g : Holding). replicate (k - 1) (new_hand r) ++ g ∷ []) c.new_hand-hand.ensures.new ∙ replicate_last (k - 1) (new_hand r) ∙ ap (λ (n : ℕ). replicate n (new_hand r)) more,
+      c.in_ok-push.ensures.items ∙ ap (λ l. l ++ c.new_hand-hand.result ∷ []) i.3
+          ∙ ap (λ (g : Holding). replicate (k - 1) (new_hand r) ++ g ∷ []) c.new_hand-hand.ensures.new ∙ replicate_last (k - 1) (new_hand r)
+          ∙ ap (λ (n : ℕ). replicate n (new_hand r)) more,
     )
 
 pub returns : goal.returns

@@ -6,4 +6,4 @@ pub join_seat-requires : goal.join_seat-requires
 join_seat-requires g c =
     let t = c.self.inside.frame in
     let is : c.args.self.now.shape ≡ t = sym (ap (λ r. r.shape) c.self.view_is) in
-    (search rules, search rules, c.requires.no_slot, rw c.self.invariant.1 (omega arith), rw (c.self.invariant.0, c.requires.told, is) (joins t _ _ _ _ c.requires.has_weight))
+    (search rules, search rules, c.requires.no_slot, rw c.self.invariant.1 (omega arith), rw (c.self.invariant.0, c.requires.picked, is) (joins t _ _ _ _ c.requires.has_weight))

@@ -11,5 +11,5 @@ load-requires g c =
     let may : May t d c.args.seat.now.me.0.account = rw is at c.requires.may in (
       search rules,
       rw (c.requires.word, c.self.invariant.1, is) (place_in t d c.args.seat.now.me.0.account c.self.invariant.2 may),
-      rw (c.self.invariant.0, c.requires.word, c.requires.told.0, c.requires.told.1, is) (loads t d _ _ c.args.seat.now.me may c.requires.turn),
+      rw (c.self.invariant.0, c.requires.word, c.requires.picked.0, c.requires.picked.1, is) (loads t d _ _ c.args.seat.now.me may c.requires.change),
     )

@@ -17,7 +17,9 @@ loop-k-preserved c =
     let more : suc (k - 1) ≡ k + 1 - 1 = omega arith in
     let kept = c.split-hand.ensures.kept in
     let both : c.split-hand.new.hand.account.collecting ≡ true = ap (λ (h : Holding). h.account.collecting) kept in
-    let new : record c.loop-k.first { account = new_part t c.loop-k.first.account } ≡ helper r f.account.known = ap (λ (h : Holding). record h { account = new_part t h.account }) i.0 ∙ ap (λ (q : RoundId). record { round = q; account = new_part t f.account }) c.requires.of in
+    let new : record c.loop-k.first { account = new_part t c.loop-k.first.account }
+    ≡ helper r f.account.known = ap (λ (h : Holding). record h { account = new_part t h.account }) i.0
+    ∙ ap (λ (q : RoundId). record { round = q; account = new_part t f.account }) c.requires.of in
     let hand : c.split-hand.result ≡ helper r f.account.known = c.split-hand.ensures.new ∙ new in
     let h = helper r f.account.known in (
       kept ∙ ap (λ (g : Holding). record g { account = kept_part g.account }) i.0 ∙ (λ j. record f { account = record f.account { weight = same j; collecting = sym both j } }),

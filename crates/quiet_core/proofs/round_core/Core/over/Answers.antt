@@ -1,9 +1,7 @@
 use Rattle.std.proofs.Common.{◌∙◌, List, length, ap, sym, subst}
 use Rattle.quiet_core.specs.Account.{Account, blank}
 use Rattle.quiet_core.specs.Balance.{Balance}
-use Rattle.quiet_core.specs.Clear.{Clear, AllClear}
-use Rattle.quiet_core.proofs.Clearing.{blank_clear}
-use Rattle.quiet_core.proofs.Opens.{all_of, hands_balance, hands_count}
+use Rattle.quiet_core.proofs.Opens.{hands_balance, hands_count}
 use Rattle.quiet_core.proofs.round_core.Core.over.Goals as goal
 
 pub invariant_of-result : goal.invariant_of-result
@@ -16,5 +14,4 @@ invariant_of-result c =
       subst (λ (xs : List Account). Balance t record { words = ws; accounts = xs }) (sym is) (hands_balance t ws o),
       c.in_ok-accounts.ensures.sched,
       ap length is ∙ hands_count t ws o t.hands one,
-      subst (λ (xs : List Account). AllClear t xs) (sym is) (all_of t ws o (Clear t) t.hands one (blank_clear t 1)),
     )

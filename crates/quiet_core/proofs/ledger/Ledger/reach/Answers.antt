@@ -4,8 +4,8 @@ use Rattle.quiet_core.specs.Rows.{put}
 use Rattle.quiet_core.specs.contracts.ledger.Ledger.{the_view}
 use Rattle.quiet_core.proofs.Sums.{put_is_set}
 use Rattle.std.proofs.Common.{◌≢◌}
-use Rattle.quiet_core.proofs.Settle.{settled_duty}
-use Rattle.quiet_core.proofs.ledger.Ledger.settle.Goals as goal
+use Rattle.quiet_core.proofs.Reached.{reached_duty}
+use Rattle.quiet_core.proofs.ledger.Ledger.reach.Goals as goal
 
 pub returns-else-node-root : goal.returns-else-node-root
 returns-else-node-root c =
@@ -18,4 +18,4 @@ returns-else-node-root c =
     let apart : node ≢ root t = λ e. c.if-node-root.false (e ∙ sym is) in
     ap (λ (row : List Bool). record (the_view c.self.inside) { duties = row }) (sym (put_is_set false c.self.inside.duties node true inside))
     ∙ ap (λ (a : Account). record a { duties = put false a.duties node true }) c.self.view_is
-    ∙ sym (settled_duty t node c.args.left a zero apart)
+    ∙ sym (reached_duty t node c.args.left a zero apart)

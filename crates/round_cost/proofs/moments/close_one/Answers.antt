@@ -1,6 +1,6 @@
 use Rattle.std.proofs.Common.{arith}
 use Rattle.round_cost.proofs.Dealt.{all_can_act, joint_weight}
-use Rattle.round_cost.proofs.moments.is_closed.Goals as goal
+use Rattle.round_cost.proofs.moments.close_one.Goals as goal
 
 pub act_all-requires-clause-can : goal.act_all-requires-clause-can
 act_all-requires-clause-can c = all_can_act _ _ _ c.in_ok-round.ensures.hands

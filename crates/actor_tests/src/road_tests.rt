@@ -131,36 +131,45 @@ fn driving(alloc: Global, since: u64) -> Result<Vehicle, AllocError> {
     })
 }
 
+/// A road on which there are so many cars lets this actor in when one leaves and another asks.
+fn lets_in<R: Abort + AllocGlobal>(rt: &R, cars: i64, to: u32, after: i64) -> Result<(), Fail> {
+    let inbox: &[Told] = &[(7, 22, 0), (7, 20, 0)];
+    let samples: &[Sampled] = &[(0, after), (1, 1)];
+    let step: Step<'_> = (
+        Why::Letters,
+        1,
+        inbox,
+        &[(to, 21, 3, 0)],
+        &[],
+        samples,
+        false,
+    );
+    comes_to(rt, &jammed(rt.alloc(), cars)?, step)?;
+    Ok(())
+}
+
+/// A vehicle that drives on its last road since one tick arrives at another, after such a trip.
+fn arrives<R: Abort + AllocGlobal>(rt: &R, since: u64, tick: u64, trip: i64) -> Result<(), Fail> {
+    let step: Step<'_> = (
+        Why::Tick,
+        tick,
+        &[],
+        &[(1, 22, 0, 0)],
+        &[],
+        &[(1, trip)],
+        true,
+    );
+    comes_to(rt, &driving(rt.alloc(), since)?, step)?;
+    Ok(())
+}
+
 /// More cars than have room, or fewer than none; trips past the ends of their type.
 #[test]
 fn roads_and_vehicles_at_the_ends_of_their_numbers(rt: HostRuntime) -> Result<(), Fail> {
-    for (cars, to, after) in [(5, 4, 5), (i64::MIN, 7, i64::MIN + 1)] {
-        let inbox: &[Told] = &[(7, 22, 0), (7, 20, 0)];
-        let samples: &[Sampled] = &[(0, after), (1, 1)];
-        let step: Step<'_> = (
-            Why::Letters,
-            1,
-            inbox,
-            &[(to, 21, 3, 0)],
-            &[],
-            samples,
-            false,
-        );
-        comes_to(&rt, &jammed(rt.alloc(), cars)?, step)?;
-    }
-    for (since, tick, trip) in [(u64::MAX, 0, i64::MIN), (0, u64::MAX, i64::MAX)] {
-        let step: Step<'_> = (
-            Why::Tick,
-            tick,
-            &[],
-            &[(1, 22, 0, 0)],
-            &[],
-            &[(1, trip)],
-            true,
-        );
-        comes_to(&rt, &driving(rt.alloc(), since)?, step)?;
-    }
-    Ok(())
+    lets_in(&rt, 5, 4, 5)?;
+    lets_in(&rt, i64::MIN, 7, i64::MIN + 1)?;
+    arrives(&rt, u64::MAX, 0, i64::MIN)?;
+    arrives(&rt, 0, u64::MAX, i64::MAX)
 }
 
 /// An origin of two vehicles, 4 ticks apart.
@@ -202,12 +211,12 @@ fn origin(alloc: Global) -> Result<Origin, AllocError> {
 #[test]
 fn an_origin_bears_vehicles(rt: HostRuntime) -> Result<(), Fail> {
     let mut origin = origin(rt.alloc())?;
-    for birth in ORIGIN {
-        let (why, tick, told, ..) = birth;
+    for birth in &ORIGIN {
+        let (why, tick, told, ..) = *birth;
         let inbox = letters(rt.alloc(), told)?;
         let copy = origin.copy(rt.alloc())?;
         let bearing = copy.bear(rt.alloc(), &at(tick), &event(why, inbox.as_slice()))?;
-        let (state, vehicles) = bears(&rt, bearing, birth)?;
+        let (state, vehicles) = bears(&rt, bearing, *birth)?;
         each_sets_out(&rt, vehicles.as_slice())?;
         origin = state;
     }

@@ -166,11 +166,11 @@ fn a_depot_bears_refills(rt: HostRuntime) -> Result<(), Fail> {
         cans: 6,
         born: 0,
     };
-    for birth in DEPOT {
-        let (why, tick, told, ..) = birth;
+    for birth in &DEPOT {
+        let (why, tick, told, ..) = *birth;
         let inbox = letters(rt.alloc(), told)?;
         let bearing = depot.bear(rt.alloc(), &at(tick), &event(why, inbox.as_slice()))?;
-        let (state, refills) = bears(&rt, bearing, birth)?;
+        let (state, refills) = bears(&rt, bearing, *birth)?;
         each_fills(&rt, refills.as_slice())?;
         depot = state;
     }

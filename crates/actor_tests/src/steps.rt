@@ -1,6 +1,6 @@
 //! Events of an actor, each with what comes of it.
 
-use actor_trait::{Actor, Bearing, Context, Event, Letter, Payload};
+use actor_trait::{Actor, Bearing, Context, Event, Letter, Parcel, Payload, Sample};
 use sim_base::{ActorId, Items, Moment};
 use std::alloc::{AllocError, Global};
 use std::process::Abort;
@@ -99,6 +99,23 @@ pub fn each_comes_to<R: Abort + AllocGlobal, A: Actor + Drop>(
     Ok(actor)
 }
 
+fn sent(alloc: Global, parcels: &[Parcel]) -> Result<Vec<Sent>, AllocError> {
+    let mut sent = Vec::new(alloc);
+    for parcel in parcels {
+        let Payload { code, a, b } = parcel.payload;
+        sent.push((parcel.to.0, code, a, b))?;
+    }
+    Ok(sent)
+}
+
+fn sampled(alloc: Global, samples: &[Sample]) -> Result<Vec<Sampled>, AllocError> {
+    let mut sampled = Vec::new(alloc);
+    for sample in samples {
+        sampled.push((sample.probe, sample.value))?;
+    }
+    Ok(sampled)
+}
+
 /// The step comes to what it says; nobody is born, and no fault is shown. The state after it.
 pub fn comes_to<R: Abort + AllocGlobal, A: Actor + Drop>(
     rt: &R,
@@ -108,18 +125,14 @@ pub fn comes_to<R: Abort + AllocGlobal, A: Actor + Drop>(
     let (why, tick, inbox, sends, ticks, samples, retires) = step;
     let inbox = letters(rt.alloc(), inbox)?;
     let outcome = actor.act(rt.alloc(), &at(tick), &event(why, inbox.as_slice()))?;
-    let mut sent = Vec::new(rt.alloc());
-    for parcel in outcome.sends.as_slice() {
-        let Payload { code, a, b } = parcel.payload;
-        sent.push((parcel.to.0, code, a, b))?;
-    }
-    let mut sampled = Vec::new(rt.alloc());
-    for sample in outcome.samples.as_slice() {
-        sampled.push((sample.probe, sample.value))?;
-    }
-    assert_eq!(rt; sent.as_slice(), sends, "sent at {tick}");
-    assert_eq!(rt; outcome.ticks.as_slice(), ticks, "asked at {tick}");
-    assert_eq!(rt; sampled.as_slice(), samples, "sampled at {tick}");
+    let sent = sent(rt.alloc(), outcome.sends.as_slice())?;
+    let sampled = sampled(rt.alloc(), outcome.samples.as_slice())?;
+    let came = (
+        sent.as_slice(),
+        outcome.ticks.as_slice(),
+        sampled.as_slice(),
+    );
+    assert_eq!(rt; came, (sends, ticks, samples), "at {tick}");
     assert!(rt; outcome.births.is_empty() && outcome.fault.is_none());
     assert_eq!(rt; outcome.retire, retires);
     Ok(outcome.state)
@@ -133,13 +146,13 @@ pub fn bears<R: Abort + AllocGlobal, S: Drop, N: Drop>(
     birth: Birth<'_>,
 ) -> Result<(S, Items<N>), Fail> {
     let (_, tick, _, births, ticks, samples) = birth;
-    let mut sampled = Vec::new(rt.alloc());
-    for sample in bearing.samples.as_slice() {
-        sampled.push((sample.probe, sample.value))?;
-    }
-    assert_eq!(rt; bearing.births.len(), births, "born at {tick}");
-    assert_eq!(rt; bearing.ticks.as_slice(), ticks, "asked at {tick}");
-    assert_eq!(rt; sampled.as_slice(), samples, "sampled at {tick}");
+    let sampled = sampled(rt.alloc(), bearing.samples.as_slice())?;
+    let came = (
+        bearing.births.len(),
+        bearing.ticks.as_slice(),
+        sampled.as_slice(),
+    );
+    assert_eq!(rt; came, (births, ticks, samples), "at {tick}");
     assert!(rt; bearing.sends.is_empty() && !bearing.retire);
     Ok((bearing.state, bearing.births))
 }

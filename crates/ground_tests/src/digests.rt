@@ -31,7 +31,7 @@ fn keys_and_draws_are_of_their_digests(rt: HostRuntime) {
     assert!(rt; low < key);
     let digest = Sha256::digest(DRAW);
     assert_eq!(rt; digest.first_chunk::<8>(), Some(&DRAW_NUMBER.to_be_bytes()));
-    for (bound, want) in [(1, 0), (1_000, 864), (u64::MAX, DRAW_NUMBER)] {
-        assert_eq!(rt; draw(1, 2, 3, 4, 5, bound), want, "below {bound}");
-    }
+    assert_eq!(rt; draw(1, 2, 3, 4, 5, 1), 0);
+    assert_eq!(rt; draw(1, 2, 3, 4, 5, 1_000), 864);
+    assert_eq!(rt; draw(1, 2, 3, 4, 5, u64::MAX), DRAW_NUMBER);
 }

@@ -2,6 +2,7 @@ use sim_base::{Memory, ReadFault, ReaderIn, WriterOut, read_all, write_all_of};
 use std::alloc::Global;
 use std::io;
 use std::io::{ErrorKind, Read, Write};
+use std::process::Abort;
 use std::test::Fail;
 
 /// What happens at the second call, and at no other.
@@ -80,40 +81,53 @@ impl Write for Slow {
     }
 }
 
+/// So much is read of a reader with this trouble, and this is read after that.
+fn reads<R: Abort + AllocGlobal>(
+    rt: &R,
+    trouble: Trouble,
+    want: Result<usize, ReadFault>,
+    rest: &[u8],
+) -> Result<(), Fail> {
+    let alloc = rt.alloc();
+    let mut source = ReaderIn::new(Slow::with(alloc, b"abcdef", trouble)?);
+    let all = read_all(alloc, &mut source, 9).map(|all| all.len());
+    assert_eq!(rt; all, want, "{trouble:?}");
+    let after = read_all(alloc, &mut source, 9).map_err(|_| Memory)?;
+    assert_eq!(rt; after.as_slice(), rest, "{trouble:?}");
+    Ok(())
+}
+
 #[test]
 fn readers_are_sources(rt: HostRuntime) -> Result<(), Fail> {
-    let alloc = rt.alloc();
-    for (trouble, want, rest) in [
-        (Trouble::Nothing, Ok(6), b"".as_slice()),
-        (Trouble::Signal, Ok(6), b""),
-        (Trouble::Error, Err(ReadFault::Fault), b"ef"),
-    ] {
-        let mut source = ReaderIn::new(Slow::with(alloc, b"abcdef", trouble)?);
-        let all = read_all(alloc, &mut source, 9).map(|all| all.len());
-        assert_eq!(rt; all, want, "{trouble:?}");
-        let after = read_all(alloc, &mut source, 9).map_err(|_| Memory)?;
-        assert_eq!(rt; after.as_slice(), rest, "{trouble:?}");
-    }
+    reads(&rt, Trouble::Nothing, Ok(6), b"")?;
+    reads(&rt, Trouble::Signal, Ok(6), b"")?;
+    reads(&rt, Trouble::Error, Err(ReadFault::Fault), b"ef")?;
     let mut text = ReaderIn::new(b"abc".as_slice());
-    assert_eq!(rt; read_all(alloc, &mut text, 3).map(|all| all.len()), Ok(3));
+    let all = read_all(rt.alloc(), &mut text, 3).map(|all| all.len());
+    assert_eq!(rt; all, Ok(3));
+    Ok(())
+}
+
+/// A text is so written to a writer with this trouble, and a second one whole; this is what it holds then.
+fn writes<R: Abort + AllocGlobal>(
+    rt: &R,
+    trouble: Trouble,
+    want: Result<(), usize>,
+    held: &[u8],
+) -> Result<(), Fail> {
+    let mut slow = Slow::with(rt.alloc(), b"", trouble)?;
+    let mut out = WriterOut::new(&mut slow);
+    assert_eq!(rt; write_all_of(&mut out, b"abcdef"), want, "{trouble:?}");
+    assert_eq!(rt; write_all_of(&mut out, b"gh"), Ok(()), "{trouble:?}");
+    assert_eq!(rt; slow.bytes.as_slice(), held, "{trouble:?}");
     Ok(())
 }
 
 #[test]
 fn writers_are_sinks(rt: HostRuntime) -> Result<(), Fail> {
-    let alloc = rt.alloc();
-    for (trouble, want, held) in [
-        (Trouble::Nothing, Ok(()), b"abcdefgh".as_slice()),
-        (Trouble::Signal, Ok(()), b"abcdefgh"),
-        (Trouble::Error, Err(4), b"abcdgh"),
-        (Trouble::NoByte, Err(4), b"abcdgh"),
-        (Trouble::RefusedFlush, Err(4), b"abcdefgh"),
-    ] {
-        let mut slow = Slow::with(alloc, b"", trouble)?;
-        let mut out = WriterOut::new(&mut slow);
-        assert_eq!(rt; write_all_of(&mut out, b"abcdef"), want, "{trouble:?}");
-        assert_eq!(rt; write_all_of(&mut out, b"gh"), Ok(()), "{trouble:?}");
-        assert_eq!(rt; slow.bytes.as_slice(), held, "{trouble:?}");
-    }
-    Ok(())
+    writes(&rt, Trouble::Nothing, Ok(()), b"abcdefgh")?;
+    writes(&rt, Trouble::Signal, Ok(()), b"abcdefgh")?;
+    writes(&rt, Trouble::Error, Err(4), b"abcdgh")?;
+    writes(&rt, Trouble::NoByte, Err(4), b"abcdgh")?;
+    writes(&rt, Trouble::RefusedFlush, Err(4), b"abcdefgh")
 }

@@ -435,9 +435,9 @@ fn runs_each(rt: &(impl AllocGlobal + Abort), cases: &[Case<'_>]) -> Result<(), 
         each_world_is_whole(&copy, 1);
         let results = plain_run(rt.alloc(), &copy)?;
         let (tick, diasca) = case.last;
-        assert_eq!(rt; results.last, Moment { tick, diasca });
-        assert_eq!(rt; results.ending, case.ending);
-        assert_eq!(rt; results.dead_letters, case.dead_letters);
+        let last = Moment { tick, diasca };
+        let came = (results.last, results.ending, results.dead_letters);
+        assert_eq!(rt; came, (last, case.ending, case.dead_letters));
         assert!(rt; are_rows(results.rows.as_slice(), case.rows));
     }
     Ok(())

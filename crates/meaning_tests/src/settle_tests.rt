@@ -6,6 +6,7 @@ use actor_trait::{Actor, Context, Event};
 use sim_base::{ActorId, Items, Memory, Moment};
 use sim_model::{Report, Settled};
 use std::alloc::Global;
+use std::process::Abort;
 use std::test::Fail;
 
 /// The moment of the deeds.
@@ -78,24 +79,34 @@ fn the_newborn_are_numbered_by_creator(rt: HostRuntime) -> Result<(), Fail> {
     Ok(())
 }
 
+/// One that also samples a probe that it hasn't.
+const UNKNOWN: Puppet = Puppet {
+    samples: 1,
+    probe: 1,
+    ..CREATOR
+};
+
+/// The deeds of the actors 2 and 3 show this actor's fault.
+fn shows<R: Abort + AllocGlobal>(
+    rt: &R,
+    second: Puppet,
+    third: Puppet,
+    max_actors: u32,
+    fault: (u32, u32),
+) -> Result<(), Fail>
+    requires { 3 ≤ max_actors }
+{
+    let Settled::Faulted { actor, code } = settle_two(rt.alloc(), second, third, max_actors)? else {
+        return Err(Fail::from("no fault"));
+    };
+    assert_eq!(rt; (actor.0, code), fault);
+    Ok(())
+}
+
 #[test]
 fn the_first_fault_of_the_least_actor_is_told(rt: HostRuntime) -> Result<(), Fail> {
-    let unknown = Puppet {
-        samples: 1,
-        probe: 1,
-        ..CREATOR
-    };
-    for (second, third, max_actors, fault) in [
-        (CREATOR, CREATOR, 6, (3, 902)),
-        (CREATOR, CREATOR, 4, (2, 902)),
-        (LISTENER, unknown, 4, (3, 902)),
-        (unknown, CREATOR, 7, (2, 903)),
-    ] {
-        let Settled::Faulted { actor, code } = settle_two(rt.alloc(), second, third, max_actors)?
-        else {
-            return Err(Fail::from("no fault"));
-        };
-        assert_eq!(rt; (actor.0, code), fault);
-    }
-    Ok(())
+    shows(&rt, CREATOR, CREATOR, 6, (3, 902))?;
+    shows(&rt, CREATOR, CREATOR, 4, (2, 902))?;
+    shows(&rt, LISTENER, UNKNOWN, 4, (3, 902))?;
+    shows(&rt, UNKNOWN, CREATOR, 7, (2, 903))
 }

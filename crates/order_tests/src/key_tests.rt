@@ -66,16 +66,17 @@ const DIGESTS: [[u8; 32]; 9] = [
 
 #[test]
 fn keys_are_of_their_digests(rt: HostRuntime) -> Result<(), AllocError> {
+    let digests = &DIGESTS;
     let mut names = Vec::new(rt.alloc());
     for count in 0..=LETTERS.len() {
         let keys = letter_keys(rt.alloc(), 1, 2, 3, &names)?;
         assert_eq!(rt; keys.len(), count);
         for (n, key) in keys.iter().enumerate() {
-            assert_eq!(rt; Some(&key.0), DIGESTS.get(n), "key {n} of {count}");
+            assert_eq!(rt; Some(&key.0), digests.get(n), "key {n} of {count}");
         }
         if let Some((recipient, sender, serial)) = LETTERS.get(count).copied() {
             let key = letter_key(1, 2, 3, recipient, sender, serial);
-            assert_eq!(rt; Some(&key.0), DIGESTS.get(count), "key {count}");
+            assert_eq!(rt; Some(&key.0), digests.get(count), "key {count}");
             names.push(LetterName {
                 recipient,
                 sender,

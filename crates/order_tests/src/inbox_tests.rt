@@ -104,14 +104,24 @@ fn expect(rt: &impl Abort, inbox: &[Letter], to: u32, sent: Letters) {
     }
 }
 
+/// The letters to an actor that arrive so are ordered so.
+fn is_ordered<R: Abort + AllocGlobal>(
+    rt: &R,
+    order: &Precedence<'_>,
+    to: u32,
+    arrived: Letters,
+    want: Letters,
+) -> Result<(), Memory> {
+    let arrived = Items::of(letters(rt.alloc(), to, arrived)?);
+    let ordered = order_inbox(rt.alloc(), arrived, order)?;
+    expect(rt, ordered.as_slice(), to, want);
+    Ok(())
+}
+
 #[test]
 fn an_inbox_is_ordered_by_the_seed(rt: HostRuntime) -> Result<(), Memory> {
-    for (seed, want) in [(2, UNDER_2), (5, UNDER_5)] {
-        let arrived = Items::of(letters(rt.alloc(), 9, ARRIVED)?);
-        let ordered = order_inbox(rt.alloc(), arrived, &plain(seed))?;
-        expect(&rt, ordered.as_slice(), 9, want);
-    }
-    Ok(())
+    is_ordered(&rt, &plain(2), 9, ARRIVED, UNDER_2)?;
+    is_ordered(&rt, &plain(5), 9, ARRIVED, UNDER_5)
 }
 
 #[test]
@@ -121,15 +131,14 @@ fn urgent_senders_come_first(rt: HostRuntime) -> Result<(), Memory> {
         sent: SENT,
         urgent: &URGENT,
     };
+    let mixed = &MIXED;
     let mut all = Vec::new(rt.alloc());
-    for (to, arrived, want) in MIXED {
-        let mut arrived = letters(rt.alloc(), to, arrived)?;
-        let ordered = order_inbox(rt.alloc(), Items::of(arrived.clone()?), &precedence)?;
-        expect(&rt, ordered.as_slice(), to, want);
-        all.append(&mut arrived)?;
+    for &(to, arrived, want) in mixed {
+        is_ordered(&rt, &precedence, to, arrived, want)?;
+        all.append(&mut letters(rt.alloc(), to, arrived)?)?;
     }
     let inboxes = Inboxes::of(rt.alloc(), &all, &precedence)?;
-    for (to, _, want) in MIXED {
+    for &(to, _, want) in mixed {
         expect(&rt, inboxes.inbox(ActorId(to)), to, want);
     }
     Ok(())
@@ -143,15 +152,11 @@ fn letters_are_sorted_out_by_recipient(rt: HostRuntime) -> Result<(), Memory> {
     let inboxes = Inboxes::of(rt.alloc(), &all, &plain(5))?;
     let recipients = [ActorId(4), ActorId(9), ActorId(200_000)];
     assert_eq!(rt; inboxes.recipients(), recipients.as_slice());
-    for (to, want) in [
-        (4, [(9, 1)].as_slice()),
-        (9, UNDER_5),
-        (200_000, &[(8, 0)]),
-        (5, &[]),
-        (u32::MAX, &[]),
-    ] {
-        expect(&rt, inboxes.inbox(ActorId(to)), to, want);
-    }
+    expect(&rt, inboxes.inbox(ActorId(4)), 4, &[(9, 1)]);
+    expect(&rt, inboxes.inbox(ActorId(9)), 9, UNDER_5);
+    expect(&rt, inboxes.inbox(ActorId(200_000)), 200_000, &[(8, 0)]);
+    expect(&rt, inboxes.inbox(ActorId(5)), 5, &[]);
+    expect(&rt, inboxes.inbox(ActorId(u32::MAX)), u32::MAX, &[]);
     Ok(())
 }
 

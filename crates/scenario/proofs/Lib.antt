@@ -1,10 +1,15 @@
+pub mod ActorTurns
+pub mod AscendingLists
 pub mod Facts
+pub mod FieldTurns
+pub mod GeneratedFacts
 pub mod Law
-pub mod Least
 pub mod Lists
-pub mod Loops
 pub mod Placing
+pub mod PrintTurns
 pub mod Printable
 pub mod Printed
+pub mod ReadFits
 pub mod Trees
+pub mod Turns
 pub mod Unknown

@@ -1,5 +1,6 @@
 -- Texts that are ASCII, and lists of values.
-use Rattle.std.proofs.Common.{◌≡◌, ℕ, zero, suc, ◌+◌, ◌<◌, List, [], ◌∷◌, ◌++◌, length, get_or, take, Bool, true, false, refl, sym, ap, ◌∙◌, arith, nat_le, ◌==◌, ◌&&◌, if◌then◌else◌, rules, String, Global, string_bytes, Option, Some, None, option_map, is_some, Result, Ok, Err}
+use Rattle.std.proofs.Common.{◌≡◌, ℕ, zero, suc, ◌+◌, ◌<◌, List, [], ◌∷◌, ◌++◌, length, get_or, take, Bool, true, false, refl, sym}
+use Rattle.std.proofs.Common.{ap, ◌∙◌, arith, nat_le, ◌==◌, ◌&&◌, if◌then◌else◌, rules, String, Global, string_bytes, Option, Some, None, option_map, is_some, Result, Ok, Err}
 use Rattle.std.proofs.lemmas.Bool.{and_parts, eqb-true}
 use Rattle.std.proofs.lemmas.Bool.Decides.{nat_tests}
 use Rattle.std.proofs.lemmas.List.{take_more}
@@ -14,8 +15,8 @@ use Rattle.result_store.specs.RuleParts.{RuleParts}
 use Rattle.result_store.specs.Rules.{is_pattern, is_pattern_byte, rule_and, rule_of, rules_from, sign_of}
 use Rattle.sim_base.specs.Names.{is_name, is_name_byte}
 use Rattle.sim_model.specs.declared.setup.Start.{Start}
-use Rattle.scenario.specs.Print.{start_trees, state_tree, text_trees}
-use Rattle.scenario.specs.Valid.{AreNamed, AreNames, AreOpening, IsOpening, is_rule}
+use Rattle.scenario.specs.Print.{actor_tree, actor_trees, text_trees}
+use Rattle.scenario.specs.Valid.{AreNamed, AreNames, AreOpening, IsOpening, is_rule, names_in}
 use Rattle.scenario.specs.declared.any_actor.AnyActor.{AnyActor}
 
 name_byte : (b : ℕ) → is_name_byte b ≡ true → b < 128
@@ -77,21 +78,21 @@ view-String s = search (rules, the_lemmas)
 
 -- ---- lists of values
 
-abbrev join : Items → Items → Items
+abbrev pub join : Items → Items → Items
 join no_items ys = ys
 join (item d xs) ys = item d (join xs ys)
 
-items_view-append : (vs ws : List Value) → items_view (vs ++ ws) ≡ join (items_view vs) (items_view ws)
+pub items_view-append : (vs ws : List Value) → items_view (vs ++ ws) ≡ join (items_view vs) (items_view ws)
 items_view-append [] ws = refl
 items_view-append (v ∷ vs) ws = ap (item (view v)) (items_view-append vs ws)
 
-text_trees-append : (ts us : List (List ℕ)) → text_trees (ts ++ us) ≡ join (text_trees ts) (text_trees us)
+pub text_trees-append : (ts us : List (List ℕ)) → text_trees (ts ++ us) ≡ join (text_trees ts) (text_trees us)
 text_trees-append [] us = refl
 text_trees-append (t ∷ ts) us = ap (item (string t)) (text_trees-append ts us)
 
-start_trees-append : (names : List (List ℕ)) (ss us : List (Start AnyActor)) → start_trees names (ss ++ us) ≡ join (start_trees names ss) (start_trees names us)
-start_trees-append names [] us = refl
-start_trees-append names (s ∷ ss) us = ap (item (state_tree names s.name s.state)) (start_trees-append names ss us)
+actor_trees-append : (names : List (List ℕ)) (ss us : List (Start AnyActor)) → actor_trees names (ss ++ us) ≡ join (actor_trees names ss) (actor_trees names us)
+actor_trees-append names [] us = refl
+actor_trees-append names (s ∷ ss) us = ap (item (actor_tree names s)) (actor_trees-append names ss us)
 
 pub one_more_text : (ts : List (List ℕ)) (i : ℕ) (t : List ℕ) (vs : List Value) (v : Value) → i < length ts → t ≡ get_or ts i t → items_view vs ≡ text_trees (take i ts) → view v ≡ string t
     → items_view (vs ++ v ∷ []) ≡ text_trees (take (i + 1) ts)
@@ -99,12 +100,12 @@ one_more_text ts i t vs v h is so_far e =
     items_view-append vs (v ∷ []) ∙ ap (λ d. join (items_view vs) (item d no_items)) e ∙ ap (λ ds. join ds (item (string t) no_items)) so_far
     ∙ sym (ap text_trees (take_more ts i t h) ∙ text_trees-append (take i ts) _ ∙ ap (λ u. join (text_trees (take i ts)) (item (string u) no_items)) (sym is))
 
-pub one_more_start : (names : List (List ℕ)) (ss : List (Start AnyActor)) (i : ℕ) (s : Start AnyActor) (vs : List Value) (v : Value) → i < length ss → s ≡ get_or ss i s → items_view vs ≡ start_trees names (take i ss)
-    → view v ≡ state_tree names s.name s.state → items_view (vs ++ v ∷ []) ≡ start_trees names (take (i + 1) ss)
-one_more_start names ss i s vs v h is so_far e =
-    let tree = λ (s : Start AnyActor). state_tree names s.name s.state in
+pub one_more_actor : (names : List (List ℕ)) (ss : List (Start AnyActor)) (i : ℕ) (s : Start AnyActor) (vs : List Value) (v : Value) → i < length ss → s ≡ get_or ss i s → items_view vs ≡ actor_trees names (take i ss)
+    → view v ≡ actor_tree names s → items_view (vs ++ v ∷ []) ≡ actor_trees names (take (i + 1) ss)
+one_more_actor names ss i s vs v h is so_far e =
+    let tree = λ (s : Start AnyActor). actor_tree names s in
     items_view-append vs (v ∷ []) ∙ ap (λ d. join (items_view vs) (item d no_items)) e ∙ ap (λ ds. join ds (item (tree s) no_items)) so_far
-    ∙ sym (ap (start_trees names) (take_more ss i s h) ∙ start_trees-append names (take i ss) _ ∙ ap (λ u. join (start_trees names (take i ss)) (item (tree u) no_items)) (sym is))
+    ∙ sym (ap (actor_trees names) (take_more ss i s h) ∙ actor_trees-append names (take i ss) _ ∙ ap (λ u. join (actor_trees names (take i ss)) (item (tree u) no_items)) (sym is))
 
 pub opening_at : (count : ℕ) (ss : List (Start AnyActor)) (i : ℕ) (d : Start AnyActor) → i < length ss → AreOpening count ss → IsOpening count (get_or ss i d).state
 opening_at count [] i d h all = absurd (omega arith)
@@ -116,7 +117,7 @@ good_rule_at [] i d h all = absurd (omega arith)
 good_rule_at (t ∷ ts) zero d h all = (and_parts (is_rule t) _ all).0
 good_rule_at (t ∷ ts) (suc i) d h all = good_rule_at ts i d (omega arith) (and_parts (is_rule t) _ all).1
 
-pub all_named : (earlier : List (List ℕ)) (ss : List (Start AnyActor)) → AreNamed earlier ss → AreNames ss
+pub all_named : (earlier : List (List ℕ)) (ss : List (Start AnyActor)) → AreNamed earlier (names_in ss) → AreNames ss
 all_named earlier [] named i d h = absurd (omega arith)
 all_named earlier (s ∷ ss) named zero d h = named.0
 all_named earlier (s ∷ ss) named (suc i) d h = all_named (earlier ++ s.name ∷ []) ss named.2 i d (omega arith)

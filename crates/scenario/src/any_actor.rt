@@ -1,13 +1,14 @@
 ghost use Rattle.std.specs.Prelude.{◌≡◌, IfOk, map};
-ghost use Rattle.scenario.specs.AnyActors.{in_variant, of_depot};
+ghost use Rattle.scenario.specs.AnyActors.{in_variant, of_bearing};
 
 use actor_trait::{Actor, Ball, Bearing, Clock, Context, Event, Fuse, Outcome};
+use road_model::{Origin, Road, Vehicle};
 use sim_base::{Items, Memory};
 use soda_model::{Customer, Depot, Machine, RandomCustomer, Refill};
 use std::alloc::Global;
 
 /// An actor of any kind.
-#[derive(Clone, Copy, Debug, PartialEq, Eq)]
+#[derive(Drop)]
 pub enum AnyActor {
     /// It beats so many times, one period apart.
     Clock(Clock),
@@ -25,10 +26,16 @@ pub enum AnyActor {
     Refill(Refill),
     /// It bears refills at its tick.
     Depot(Depot),
+    /// It lets so many cars in at a time.
+    Road(Road),
+    /// It bears vehicles, one period apart.
+    Origin(Origin),
+    /// It drives along its route, and retires. A scenario names none: they are born.
+    Vehicle(Vehicle),
 }
 
 /// A kind with a variant of its own.
-pub(crate) trait Variant: Actor + Drop {
+pub(crate) trait Variant: Drop {
     ghost use Rattle.scenario.specs.declared.any_actor.AnyActor.{AnyActor};
 
     /// The variant.
@@ -109,6 +116,46 @@ impl Variant for Refill {
     }
 }
 
+impl Variant for Depot {
+    ghost use Rattle.scenario.specs.declared.any_actor.AnyActor.TheVariants as any;
+
+    ghost variant = { any.Depot };
+
+    fn put(self) -> AnyActor {
+        AnyActor::Depot(self)
+    }
+}
+
+impl Variant for Road {
+    ghost use Rattle.scenario.specs.declared.any_actor.AnyActor.TheVariants as any;
+
+    ghost variant = { any.Road };
+
+    fn put(self) -> AnyActor {
+        AnyActor::Road(self)
+    }
+}
+
+impl Variant for Origin {
+    ghost use Rattle.scenario.specs.declared.any_actor.AnyActor.TheVariants as any;
+
+    ghost variant = { any.Origin };
+
+    fn put(self) -> AnyActor {
+        AnyActor::Origin(self)
+    }
+}
+
+impl Variant for Vehicle {
+    ghost use Rattle.scenario.specs.declared.any_actor.AnyActor.TheVariants as any;
+
+    ghost variant = { any.Vehicle };
+
+    fn put(self) -> AnyActor {
+        AnyActor::Vehicle(self)
+    }
+}
+
 /// Each actor in its variant, in the same order.
 fn put_all<A: Variant>(alloc: Global, actors: Items<A>) -> Result<Items<AnyActor>, Memory>
     ensures { IfOk result (λ all. all ≡ map A.variant actors) }
@@ -144,9 +191,12 @@ fn put_outcome<A: Variant>(alloc: Global, outcome: Outcome<A>) -> Result<Outcome
     })
 }
 
-/// The bearing of a depot with the depot and each refill in its variant. It shows no fault.
-fn put_bearing(alloc: Global, bearing: Bearing<Depot, Refill>) -> Result<Outcome<AnyActor>, Memory>
-    ensures { IfOk result (λ o. o ≡ of_depot bearing) }
+/// The bearing with the state and each newborn in its variant. It shows no fault.
+fn put_bearing<S: Variant, N: Variant>(
+    alloc: Global,
+    bearing: Bearing<S, N>,
+) -> Result<Outcome<AnyActor>, Memory>
+    ensures { IfOk result (λ o. o ≡ of_bearing S.variant N.variant bearing) }
 {
     let Bearing {
         state,
@@ -157,7 +207,7 @@ fn put_bearing(alloc: Global, bearing: Bearing<Depot, Refill>) -> Result<Outcome
         retire,
     } = bearing;
     Ok(Outcome {
-        state: AnyActor::Depot(state),
+        state: state.put(),
         sends,
         ticks,
         births: put_all(alloc, births)?,
@@ -180,62 +230,82 @@ impl Actor for AnyActor {
         event: &Event<'_>,
     ) -> Result<Outcome<Self>, Memory> {
         match self {
-            AnyActor::Clock(clock) => put_outcome(alloc, clock.act(alloc, context, event)?),
-            AnyActor::Ball(ball) => put_outcome(alloc, ball.act(alloc, context, event)?),
-            AnyActor::Fuse(fuse) => put_outcome(alloc, fuse.act(alloc, context, event)?),
-            AnyActor::Machine(machine) => put_outcome(alloc, machine.act(alloc, context, event)?),
-            AnyActor::Customer(customer) => {
-                put_outcome(alloc, customer.act(alloc, context, event)?)
-            }
-            AnyActor::RandomCustomer(customer) => {
-                put_outcome(alloc, customer.act(alloc, context, event)?)
-            }
-            AnyActor::Refill(refill) => put_outcome(alloc, refill.act(alloc, context, event)?),
-            AnyActor::Depot(depot) => put_bearing(alloc, depot.bear(alloc, context, event)?),
+            AnyActor::Clock(s) => put_outcome(alloc, s.act(alloc, context, event)?),
+            AnyActor::Ball(s) => put_outcome(alloc, s.act(alloc, context, event)?),
+            AnyActor::Fuse(s) => put_outcome(alloc, s.act(alloc, context, event)?),
+            AnyActor::Machine(s) => put_outcome(alloc, s.act(alloc, context, event)?),
+            AnyActor::Customer(s) => put_outcome(alloc, s.act(alloc, context, event)?),
+            AnyActor::RandomCustomer(s) => put_outcome(alloc, s.act(alloc, context, event)?),
+            AnyActor::Refill(s) => put_outcome(alloc, s.act(alloc, context, event)?),
+            AnyActor::Depot(s) => put_bearing(alloc, s.bear(alloc, context, event)?),
+            AnyActor::Road(s) => put_outcome(alloc, s.act(alloc, context, event)?),
+            AnyActor::Origin(s) => put_bearing(alloc, s.bear(alloc, context, event)?),
+            AnyActor::Vehicle(s) => put_outcome(alloc, s.act(alloc, context, event)?),
         }
     }
 
     fn kind(&self) -> &str {
         match self {
-            AnyActor::Clock(clock) => clock.kind(),
-            AnyActor::Ball(ball) => ball.kind(),
-            AnyActor::Fuse(fuse) => fuse.kind(),
-            AnyActor::Machine(machine) => machine.kind(),
-            AnyActor::Customer(customer) => customer.kind(),
-            AnyActor::RandomCustomer(customer) => customer.kind(),
-            AnyActor::Refill(refill) => refill.kind(),
+            AnyActor::Clock(s) => s.kind(),
+            AnyActor::Ball(s) => s.kind(),
+            AnyActor::Fuse(s) => s.kind(),
+            AnyActor::Machine(s) => s.kind(),
+            AnyActor::Customer(s) => s.kind(),
+            AnyActor::RandomCustomer(s) => s.kind(),
+            AnyActor::Refill(s) => s.kind(),
             AnyActor::Depot(_) => "depot",
+            AnyActor::Road(s) => s.kind(),
+            AnyActor::Origin(_) => "origin",
+            AnyActor::Vehicle(s) => s.kind(),
         }
     }
 
     fn probes(&self) -> u32 {
         match self {
-            AnyActor::Clock(clock) => clock.probes(),
-            AnyActor::Ball(ball) => ball.probes(),
-            AnyActor::Fuse(fuse) => fuse.probes(),
-            AnyActor::Machine(machine) => machine.probes(),
-            AnyActor::Customer(customer) => customer.probes(),
-            AnyActor::RandomCustomer(customer) => customer.probes(),
-            AnyActor::Refill(refill) => refill.probes(),
+            AnyActor::Clock(s) => s.probes(),
+            AnyActor::Ball(s) => s.probes(),
+            AnyActor::Fuse(s) => s.probes(),
+            AnyActor::Machine(s) => s.probes(),
+            AnyActor::Customer(s) => s.probes(),
+            AnyActor::RandomCustomer(s) => s.probes(),
+            AnyActor::Refill(s) => s.probes(),
             AnyActor::Depot(_) => 1,
+            AnyActor::Road(s) => s.probes(),
+            AnyActor::Origin(_) => 1,
+            AnyActor::Vehicle(s) => s.probes(),
         }
     }
 
     fn probe(&self, n: u32) -> &str {
         match self {
-            AnyActor::Clock(clock) => clock.probe(n),
-            AnyActor::Ball(ball) => ball.probe(n),
-            AnyActor::Fuse(fuse) => fuse.probe(n),
-            AnyActor::Machine(machine) => machine.probe(n),
-            AnyActor::Customer(customer) => customer.probe(n),
-            AnyActor::RandomCustomer(customer) => customer.probe(n),
-            AnyActor::Refill(refill) => refill.probe(n),
+            AnyActor::Clock(s) => s.probe(n),
+            AnyActor::Ball(s) => s.probe(n),
+            AnyActor::Fuse(s) => s.probe(n),
+            AnyActor::Machine(s) => s.probe(n),
+            AnyActor::Customer(s) => s.probe(n),
+            AnyActor::RandomCustomer(s) => s.probe(n),
+            AnyActor::Refill(s) => s.probe(n),
             AnyActor::Depot(_) => "trucks",
+            AnyActor::Road(s) => s.probe(n),
+            AnyActor::Origin(_) => "sent",
+            AnyActor::Vehicle(s) => s.probe(n),
         }
     }
 
-    fn copy(&self, _alloc: Global) -> Result<Self, Memory> {
-        Ok(*self)
+    fn copy(&self, alloc: Global) -> Result<Self, Memory> {
+        Ok(match self {
+            AnyActor::Clock(s) => AnyActor::Clock(*s),
+            AnyActor::Ball(s) => AnyActor::Ball(*s),
+            AnyActor::Fuse(s) => AnyActor::Fuse(*s),
+            AnyActor::Machine(s) => AnyActor::Machine(*s),
+            AnyActor::Customer(s) => AnyActor::Customer(*s),
+            AnyActor::RandomCustomer(s) => AnyActor::RandomCustomer(*s),
+            AnyActor::Refill(s) => AnyActor::Refill(*s),
+            AnyActor::Depot(s) => AnyActor::Depot(*s),
+            AnyActor::Road(s) => AnyActor::Road(s.copy(alloc)?),
+            AnyActor::Origin(s) => AnyActor::Origin(s.copy(alloc)?),
+            AnyActor::Vehicle(s) => AnyActor::Vehicle(s.copy(alloc)?),
+        })
     }
 
     ghost lawful = { any_lawful };

@@ -1,25 +1,13 @@
 //! The fields of an object.
-ghost use Rattle.std.specs.Prelude.{◌≡◌, ◌≤◌, pos, IfOk, IfSome, option_map};
-ghost use Rattle.serde_json.specs.Find.{get};
-ghost use Rattle.serde_json.specs.View.{view, members_view};
-ghost use Rattle.scenario.specs.Answers.{ok_map, place_of};
-ghost use Rattle.scenario.specs.Fields.{IsLeastUnknown, in_range, is_field, is_field_of, least_unknown, no_unknown, number_at, number_or, text_at, whole};
+ghost use Rattle.std.specs.Prelude.{◌≡◌, ◌≤◌, map, length, IfOk, option_map};
+ghost use Rattle.serde_json.specs.View.{view, items_view, members_view};
+ghost use Rattle.scenario.specs.Answers.{Gives, ok_map, place_of};
+ghost use Rattle.scenario.specs.Fields.{all_texts, in_range, is_field, least_unknown, no_unknown, number_at, number_or, text_at, texts_at, texts_or, whole};
 
-use crate::{FieldText, Place, Refusal};
+use crate::table::{Kind, fields_of, is_among};
+use crate::{FieldText, Place, Refusal, ScenarioFault};
 use serde_json::{Map, Value};
-
-/// The kinds that a scenario may name.
-#[derive(Clone, Copy)]
-pub(crate) enum Kind {
-    Clock,
-    Ball,
-    Fuse,
-    Machine,
-    Customer,
-    RandomCustomer,
-    Refill,
-    Depot,
-}
+use std::alloc::{AllocError, Global};
 
 /// Whose fields they are.
 #[derive(Clone, Copy)]
@@ -28,12 +16,7 @@ pub(crate) enum Owner {
     Actor(Kind),
 }
 
-/// The most that a tick, a period or a sum may be.
-pub(crate) const MOST: u64 = 1_000_000_000;
-
-/// The most that a price, an offer or a load of cans may be.
-pub(crate) const MOST_CANS: u64 = 1_000_000;
-
+/// The field of an actor, or of the whole for 0.
 pub(crate) fn place(actor: u32, field: &str) -> Place
     ensures { result ≡ place_of actor field.now }
 {
@@ -101,14 +84,6 @@ pub(crate) fn number_or(
     number_at(object, 0, field, low, high)
 }
 
-/// A number as a signed one.
-pub(crate) fn signed(n: u64) -> i64
-    requires { n ≤ 1000000000 }
-    ensures { result ≡ pos n }
-{
-    n as i64
-}
-
 /// The text of a field.
 #[tactic(auto, unfolding(crate::specs::Fields::text_at))]
 pub(crate) fn text_at<'v>(object: &'v Value, actor: u32, field: &str) -> Result<&'v str, Refusal>
@@ -123,24 +98,66 @@ pub(crate) fn text_at<'v>(object: &'v Value, actor: u32, field: &str) -> Result<
     }
 }
 
-#[tactic(auto, unfolding(crate::specs::Fields::is_field_of))]
-fn is_field_of(kind: Kind, key: &str) -> bool
-    ensures { result ≡ is_field_of kind key.now }
+/// The texts, if each value is one.
+fn all_texts<'v>(alloc: Global, values: &'v [Value]) -> Result<Option<Vec<&'v str>>, AllocError>
+    ensures { IfOk result (λ o. option_map (λ v. map (λ t. t.now) v.items) o ≡ all_texts (items_view values.now)) }
 {
-    match kind {
-        Kind::Clock => key == "period" || key == "count",
-        Kind::Ball => key == "peer" || key == "at" || key == "hits",
-        Kind::Fuse => key == "at" || key == "code",
-        Kind::Machine => key == "stock" || key == "price" || key == "close_at",
-        Kind::Customer => {
-            key == "machine" || key == "period" || key == "money" || key == "offer"
-        }
-        Kind::RandomCustomer => {
-            key == "machine" || key == "low" || key == "high" || key == "money" || key == "offer"
-        }
-        Kind::Refill => key == "machine" || key == "cans",
-        Kind::Depot => key == "machine" || key == "at" || key == "trucks" || key == "cans",
+    let mut texts = Vec::with_capacity(alloc, values.len())?;
+    for value in values {
+        let Some(text) = value.as_str() else {
+            return Ok(None);
+        };
+        texts.push(text)?;
     }
+    Ok(Some(texts))
+}
+
+/// The texts of a field that holds a list of `few` to `many` of them.
+#[tactic(auto, unfolding(crate::specs::Fields::texts_at))]
+pub(crate) fn texts_at<'v>(
+    alloc: Global,
+    object: &'v Value,
+    actor: u32,
+    field: &str,
+    few: usize,
+    many: usize,
+) -> Result<Vec<&'v str>, ScenarioFault>
+    ensures value { Gives (ok_map (λ v. map (λ t. t.now) v.items) result) (texts_at actor field.now few many (view object.now)) }
+    ensures range { IfOk result (λ v. length v.items ≤ many) }
+{
+    let Some(value) = object.get(field) else {
+        return Err(ScenarioFault::Refused(Refusal::Missing(place(actor, field))));
+    };
+    let Some(values) = value.as_array() else {
+        return Err(ScenarioFault::Refused(Refusal::WrongType(place(actor, field))));
+    };
+    let Some(texts) = all_texts(alloc, values)? else {
+        return Err(ScenarioFault::Refused(Refusal::WrongType(place(actor, field))));
+    };
+    let count = texts.len();
+    if count < few || many < count {
+        return Err(ScenarioFault::Refused(Refusal::OutOfRange(place(actor, field), count as i128)));
+    }
+    Ok(texts)
+}
+
+/// At most `many` texts of a field of the whole; where the field isn't there, the default.
+#[tactic(auto, unfolding(crate::specs::Fields::texts_or))]
+pub(crate) fn texts_or<'v>(
+    alloc: Global,
+    object: &'v Value,
+    field: &str,
+    default: Vec<&'v str>,
+    many: usize,
+) -> Result<Vec<&'v str>, ScenarioFault>
+    requires { length default.items ≤ many }
+    ensures value { Gives (ok_map (λ v. map (λ t. t.now) v.items) result) (texts_or field.now (map (λ t. t.now) default.entry.items) many (view object.now)) }
+    ensures range { IfOk result (λ v. length v.items ≤ many) }
+{
+    if object.get(field).is_none() {
+        return Ok(default);
+    }
+    texts_at(alloc, object, 0, field, 0, many)
 }
 
 #[tactic(auto, unfolding(crate::specs::Fields::is_field))]
@@ -154,17 +171,17 @@ fn is_field(owner: Owner, key: &str) -> bool
                 || key == "last_tick"
                 || key == "diasca_limit"
                 || key == "max_actors"
+                || key == "urgent"
                 || key == "results"
                 || key == "actors"
         }
-        Owner::Actor(kind) => key == "name" || key == "kind" || is_field_of(kind, key),
+        Owner::Actor(kind) => key == "name" || key == "kind" || is_among(fields_of(kind), key),
     }
 }
 
-/// The least field that is none of the owner's.
+/// The least field that is none of the owner's: the keys of an object are in the order of their bytes.
 fn least_unknown(owner: Owner, object: &Map<String, Value>) -> Option<&str>
-    ensures value { option_map (λ s. s.now) result ≡ least_unknown owner (members_view object.now.entries) }
-    ensures least { IfSome result (λ key. IsLeastUnknown owner (members_view object.now.entries) key.now) }
+    ensures { option_map (λ s. s.now) result ≡ least_unknown owner (members_view object.now.entries) }
 {
     for key in object.keys() {
         if !is_field(owner, key.as_str()) {

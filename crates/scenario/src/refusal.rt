@@ -2,7 +2,9 @@ ghost use Rattle.std.specs.Prelude.{◌≡◌, ◌≤◌, length, take};
 
 use sim_base::{Memory, Name};
 use std::alloc::{AllocError, AllocFailed};
+use std::fmt;
 use std::marker::Model;
+use thiserror::Error;
 
 const MOST: usize = 64;
 
@@ -49,6 +51,24 @@ impl FieldText {
     }
 }
 
+/// A byte of a field's name, or `?` where it isn't printable ASCII.
+fn shown(byte: u8) -> char {
+    match byte {
+        b' '..=b'~' => char::from(byte),
+        _ => '?',
+    }
+}
+
+impl fmt::Display for FieldText {
+    /// The bytes, with `?` for each that isn't printable ASCII.
+    fn fmt<W: fmt::Write>(&self, f: &mut fmt::Formatter<W>) -> fmt::Result {
+        for byte in self.as_bytes() {
+            f.write_char(shown(*byte))?;
+        }
+        Ok(())
+    }
+}
+
 /// Where a check failed.
 #[derive(Drop, PartialEq, Eq)]
 pub struct Place {
@@ -57,6 +77,21 @@ pub struct Place {
     /// The field; empty for an actor that is no object. The whole, where it is no object, is called
     /// `scenario`.
     pub field: FieldText,
+}
+
+impl fmt::Display for Place {
+    /// The field of the whole; else `actor`, its number, and the field where it has a name.
+    fn fmt<W: fmt::Write>(&self, f: &mut fmt::Formatter<W>) -> fmt::Result {
+        let field = &self.field;
+        let actor = self.actor;
+        if actor == 0 {
+            write!(f, "{field}")
+        } else if field.as_bytes().is_empty() {
+            write!(f, "actor {actor}")
+        } else {
+            write!(f, "actor {actor} {field}")
+        }
+    }
 }
 
 /// Why a text is no scenario. The first check that fails, in the order of the format, is the refusal.
@@ -86,12 +121,44 @@ pub enum Refusal {
     TooManyActors(u64),
 }
 
+impl fmt::Display for Refusal {
+    /// What a line says of a refused scenario, in pieces and without memory.
+    fn fmt<W: fmt::Write>(&self, f: &mut fmt::Formatter<W>) -> fmt::Result {
+        match self {
+            Refusal::NotJson => write!(f, "not JSON"),
+            Refusal::Missing(place) => write!(f, "missing {place}"),
+            Refusal::WrongType(place) => write!(f, "wrong type {place}"),
+            Refusal::OutOfRange(place, value) => write!(f, "out of range {place} {value}"),
+            Refusal::BadName(id) => write!(f, "bad name of actor {id}"),
+            Refusal::Twice(name) => {
+                let text = str::from_utf8(name.as_bytes()).unwrap_or("");
+                write!(f, "name twice {text}")
+            }
+            Refusal::UnknownKind(id) => write!(f, "unknown kind of actor {id}"),
+            Refusal::UnknownField(place) => write!(f, "unknown field {place}"),
+            Refusal::UnknownActor(place) => write!(f, "unknown actor {place}"),
+            Refusal::BadRule(number) => write!(f, "bad rule {number}"),
+            Refusal::TooManyActors(number) => write!(f, "too many actors {number}"),
+        }
+    }
+}
+
+impl fmt::Debug for Refusal {
+    fn fmt<W: fmt::Write>(&self, f: &mut fmt::Formatter<W>) -> fmt::Result {
+        write!(f, "{self}")
+    }
+}
+
+impl std::error::Error for Refusal {}
+
 /// Why a text gave no scenario.
-#[derive(Drop)]
+#[derive(Debug, Drop, Error)]
 pub enum ScenarioFault {
     /// The text is none.
+    #[error("{0}")]
     Refused(Refusal),
     /// A growth was refused; nothing is known of the text.
+    #[error("no memory")]
     Memory,
 }
 

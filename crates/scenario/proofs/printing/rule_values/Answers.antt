@@ -8,4 +8,6 @@ pub rule_value-requires : goal.rule_value-requires
 rule_value-requires c = ap is_rule (c.as_slice.ensures ∙ c.text-item.is) ∙ good_rule_at c.args.texts.now c.loop-text.text-index c.text-item.result c.loop-text-test.true c.requires
 
 pub loop-text-preserved : goal.loop-text-preserved
-loop-text-preserved c = rw c.in_ok-push.ensures.items (one_more_text c.args.texts.now c.loop-text.text-index c.text-item.result c.loop-text.values.items _ c.loop-text-test.true c.text-item.is c.loop-text.invariant (c.in_ok-rule_value.ensures ∙ ap string c.as_slice.ensures))
+loop-text-preserved c =
+    rw c.in_ok-push.ensures.items
+    (one_more_text c.args.texts.now c.loop-text.text-index c.text-item.result c.loop-text.values.items _ c.loop-text-test.true c.text-item.is c.loop-text.invariant (c.in_ok-rule_value.ensures ∙ ap string c.as_slice.ensures))

@@ -1,8 +1,0 @@
-use Rattle.std.proofs.Common.{◌≡◌, drop, map}
-use Rattle.serde_json.specs.View.{items_view}
-use Rattle.scenario.specs.Selection.{all_texts}
-use Rattle.scenario.proofs.Loops.{before}
-use Rattle.scenario.proofs.selection.all_texts.Given as goal
-
-abbrev pub invariant-loop-value : goal.invariant-loop-value
-invariant-loop-value l = all_texts (items_view l.values) ≡ before (map (λ t. t.now) l.texts.items) (all_texts (items_view (drop l.value-index l.values)))

@@ -1,6 +1,7 @@
-use actor_trait::{Actor, Ball, Clock, Context, Event, Fuse, Letter, Payload, fault_of};
+use actor_trait::{Actor, Ball, Clock, Context, Event, Fuse, Letter, Outcome, Payload, fault_of};
+use road_model::{Origin, Road, Vehicle};
 use scenario::AnyActor;
-use sim_base::{ActorId, Moment};
+use sim_base::{ActorId, Items, Moment};
 use soda_model::{Customer, Depot, Machine, RandomCustomer, Refill};
 use std::alloc::Global;
 use std::test::Fail;
@@ -21,79 +22,19 @@ const REFILL: Refill = Refill {
     cans: 6,
 };
 
-/// An event of an actor at tick 9 or at the opening, and what comes of it.
-#[derive(Clone, Copy)]
-struct Case<'a> {
-    actor: AnyActor,
+/// An event at tick 9 or at the opening, with so many letters that tell of births.
+fn outcome_of(
+    alloc: Global,
+    actor: &AnyActor,
     now: Moment,
-    first: bool,
-    /// Sender and serial number of each letter.
-    inbox: &'a [(u32, u32)],
-    state: AnyActor,
-    /// Recipient, code and first number.
-    sends: &'a [(u32, u32, i64)],
-    ticks: &'a [u64],
-    /// How many refills it bears.
-    births: usize,
-    /// Probe and value.
-    samples: &'a [(u32, i64)],
-    retire: bool,
-}
-
-/// A depot at the opening, where it asks for its tick.
-const OPENING: Case<'static> = Case {
-    actor: AnyActor::Depot(DEPOT),
-    now: Moment { tick: 0, diasca: 0 },
-    first: true,
-    inbox: &[],
-    state: AnyActor::Depot(DEPOT),
-    sends: &[],
-    ticks: &[9],
-    births: 0,
-    samples: &[],
-    retire: false,
-};
-
-const CASES: [Case<'static>; 4] = [
-    OPENING,
-    // It bears its refills.
-    Case {
-        now: Moment { tick: 9, diasca: 0 },
-        first: false,
-        ticks: &[],
-        births: 2,
-        ..OPENING
-    },
-    // It counts those letters that tell of births.
-    Case {
-        now: Moment { tick: 9, diasca: 1 },
-        first: false,
-        inbox: &[(0, 0), (0, 1), (4, 0)],
-        state: AnyActor::Depot(Depot { born: 2, ..DEPOT }),
-        ticks: &[],
-        samples: &[(0, 2)],
-        ..OPENING
-    },
-    // A refill fills its machine and retires.
-    Case {
-        actor: AnyActor::Refill(REFILL),
-        now: Moment { tick: 9, diasca: 1 },
-        state: AnyActor::Refill(REFILL),
-        sends: &[(3, 13, 6)],
-        ticks: &[],
-        samples: &[(0, 6)],
-        retire: true,
-        ..OPENING
-    },
-];
-
-fn letters(alloc: Global, inbox: &[(u32, u32)]) -> Result<Vec<Letter>, Fail> {
+    births: u32,
+) -> Result<Outcome<AnyActor>, Fail> {
     let mut letters = Vec::new(alloc);
-    for (sender, serial) in inbox {
+    for serial in 0..births {
         letters.push(Letter {
             to: ActorId(5),
-            from: ActorId(*sender),
-            serial: *serial,
+            from: ActorId(0),
+            serial,
             payload: Payload {
                 code: 0,
                 a: 6,
@@ -101,116 +42,167 @@ fn letters(alloc: Global, inbox: &[(u32, u32)]) -> Result<Vec<Letter>, Fail> {
             },
         })?;
     }
-    Ok(letters)
+    let context = Context {
+        seed: 7,
+        now,
+        me: ActorId(5),
+    };
+    let event = Event {
+        first: now.tick == 0,
+        spontaneous: now.tick > 0 && now.diasca == 0,
+        inbox: letters.as_slice(),
+    };
+    Ok(actor.act(alloc, &context, &event)?)
 }
+
+/// The moment of an event, the births that it is told of, how many were then born in all, the ticks
+/// that it asks for, and how many it bears.
+const DEPOTS: [(Moment, u32, i64, &[u64], usize); 3] = [
+    (Moment { tick: 0, diasca: 0 }, 0, 0, &[9], 0),
+    (Moment { tick: 9, diasca: 0 }, 0, 0, &[], 2),
+    (Moment { tick: 9, diasca: 1 }, 2, 2, &[], 0),
+];
 
 #[test]
 fn depots_bear_refills(rt: HostRuntime) -> Result<(), Fail> {
-    for case in &CASES {
-        let context = Context {
-            seed: 7,
-            now: case.now,
-            me: ActorId(5),
-        };
-        let inbox = letters(rt.alloc(), case.inbox)?;
-        let event = Event {
-            first: case.first,
-            spontaneous: case.now.tick > 0 && case.now.diasca == 0,
-            inbox: inbox.as_slice(),
-        };
-        let outcome = case.actor.act(rt.alloc(), &context, &event)?;
-        assert_eq!(rt; outcome.state, case.state);
-        assert_eq!(rt; outcome.retire, case.retire);
-        assert_eq!(rt; outcome.ticks.as_slice(), case.ticks);
-        assert_eq!(rt; outcome.births.len(), case.births);
-        assert!(rt;
-            outcome
-                .births
-                .as_slice()
-                .iter()
-                .all(|b| *b == AnyActor::Refill(REFILL))
-        );
-        let sends = outcome.sends.as_slice().iter();
-        assert!(rt;
-            sends
-                .map(|p| (p.to.0, p.payload.code, p.payload.a))
-                .eq(case.sends.iter().copied())
-        );
-        let samples = outcome.samples.as_slice().iter();
-        assert!(rt;
-            samples
-                .map(|s| (s.probe, s.value))
-                .eq(case.samples.iter().copied())
-        );
-        assert_eq!(rt; fault_of(&outcome, case.now), None);
+    for &(now, told, born, ticks, bears) in &DEPOTS {
+        let outcome = outcome_of(rt.alloc(), &AnyActor::Depot(DEPOT), now, told)?;
+        match &outcome.state {
+            AnyActor::Depot(depot) => assert_eq!(rt; *depot, Depot { born, ..DEPOT }),
+            _ => assert!(rt; false),
+        }
+        assert_eq!(rt; outcome.ticks.as_slice(), ticks);
+        assert_eq!(rt; outcome.births.len(), bears);
+        for born in outcome.births.as_slice() {
+            match born {
+                AnyActor::Refill(refill) => assert_eq!(rt; *refill, REFILL),
+                _ => assert!(rt; false),
+            }
+        }
+        assert!(rt; !outcome.retire);
+        assert_eq!(rt; fault_of(&outcome, now), None);
     }
     Ok(())
 }
 
-/// An actor of each kind, the kind's name, and the names of its probes.
-const KINDS: [(AnyActor, &str, &[&str]); 8] = [
-    (
-        AnyActor::Clock(Clock {
-            period: 1,
-            count: 1,
-            beats: 0,
-        }),
-        "clock",
-        &["beats"],
-    ),
-    (
-        AnyActor::Ball(Ball {
-            peer: ActorId(1),
-            at: 1,
-            hits: 0,
-            received: 0,
-        }),
-        "ball",
-        &["hits"],
-    ),
-    (AnyActor::Fuse(Fuse { at: 0, code: 1 }), "fuse", &[]),
-    (
-        AnyActor::Machine(Machine {
-            stock: 0,
-            price: 0,
-            close_at: 0,
-            coins: 0,
-        }),
-        "machine",
-        &["stock", "coins"],
-    ),
-    (
-        AnyActor::Customer(Customer {
-            machine: MACHINE,
-            period: 1,
-            money: 0,
-            offer: 0,
-            cans: 0,
-        }),
-        "customer",
-        &["cans", "money"],
-    ),
-    (
-        AnyActor::RandomCustomer(RandomCustomer {
-            machine: MACHINE,
-            low: 1,
-            high: 1,
-            money: 0,
-            offer: 0,
-            cans: 0,
-        }),
-        "random_customer",
-        &["cans", "money"],
-    ),
-    (AnyActor::Refill(REFILL), "refill", &["cans"]),
-    (AnyActor::Depot(DEPOT), "depot", &["trucks"]),
+/// An origin of four vehicles, of which two are left.
+fn origin(alloc: Global) -> Result<Origin, Fail> {
+    Ok(Origin {
+        route: Items::of(vec![in alloc; ActorId(1), ActorId(2)]?),
+        period: 9,
+        count: 4,
+        left: 2,
+        born: 0,
+    })
+}
+
+/// The moment of an event, the births that it is told of, how many are then left, the ticks that it
+/// asks for, how many it bears, and how many samples it makes.
+const ORIGINS: [(Moment, u32, u32, &[u64], usize, usize); 3] = [
+    (Moment { tick: 0, diasca: 0 }, 0, 2, &[9], 0, 0),
+    (Moment { tick: 9, diasca: 0 }, 0, 1, &[18], 1, 0),
+    (Moment { tick: 9, diasca: 1 }, 1, 2, &[], 0, 1),
+];
+
+#[test]
+fn origins_bear_vehicles(rt: HostRuntime) -> Result<(), Fail> {
+    for &(now, told, left, ticks, bears, samples) in &ORIGINS {
+        let actor = AnyActor::Origin(origin(rt.alloc())?);
+        let outcome = outcome_of(rt.alloc(), &actor, now, told)?;
+        match &outcome.state {
+            AnyActor::Origin(origin) => assert_eq!(rt; origin.left, left),
+            _ => assert!(rt; false),
+        }
+        assert_eq!(rt; outcome.ticks.as_slice(), ticks);
+        assert_eq!(rt; outcome.births.len(), bears);
+        assert_eq!(rt; outcome.samples.len(), samples);
+        for born in outcome.births.as_slice() {
+            match born {
+                AnyActor::Vehicle(vehicle) => assert_eq!(rt; vehicle.route.len(), 2),
+                _ => assert!(rt; false),
+            }
+        }
+    }
+    Ok(())
+}
+
+/// An actor of each kind, in the order of `KINDS`.
+fn actors(alloc: Global) -> Result<Vec<AnyActor>, Fail> {
+    let mut actors = Vec::new(alloc);
+    actors.push(AnyActor::Clock(Clock {
+        period: 1,
+        count: 1,
+        beats: 0,
+    }))?;
+    actors.push(AnyActor::Ball(Ball {
+        peer: ActorId(1),
+        at: 1,
+        hits: 0,
+        received: 0,
+    }))?;
+    actors.push(AnyActor::Fuse(Fuse { at: 0, code: 1 }))?;
+    actors.push(AnyActor::Machine(Machine {
+        stock: 0,
+        price: 0,
+        close_at: 0,
+        coins: 0,
+    }))?;
+    actors.push(AnyActor::Customer(Customer {
+        machine: MACHINE,
+        period: 1,
+        money: 0,
+        offer: 0,
+        cans: 0,
+    }))?;
+    actors.push(AnyActor::RandomCustomer(RandomCustomer {
+        machine: MACHINE,
+        low: 1,
+        high: 1,
+        money: 0,
+        offer: 0,
+        cans: 0,
+    }))?;
+    actors.push(AnyActor::Refill(REFILL))?;
+    actors.push(AnyActor::Depot(DEPOT))?;
+    actors.push(AnyActor::Road(Road {
+        length: 1,
+        room: 1,
+        cars: 1,
+        queue: Items::of(vec![in alloc; ActorId(7)]?),
+    }))?;
+    actors.push(AnyActor::Origin(origin(alloc)?))?;
+    actors.push(AnyActor::Vehicle(Vehicle {
+        route: Items::of(vec![in alloc; ActorId(1)]?),
+        leg: 0,
+        since: 0,
+        waits: true,
+    }))?;
+    Ok(actors)
+}
+
+/// The name of each kind, and the names of its probes.
+const KINDS: [(&str, &[&str]); 11] = [
+    ("clock", &["beats"]),
+    ("ball", &["hits"]),
+    ("fuse", &[]),
+    ("machine", &["stock", "coins"]),
+    ("customer", &["cans", "money"]),
+    ("random_customer", &["cans", "money"]),
+    ("refill", &["cans"]),
+    ("depot", &["trucks"]),
+    ("road", &["cars", "queue"]),
+    ("origin", &["sent"]),
+    ("vehicle", &["leg", "trip"]),
 ];
 
 #[test]
 fn each_kind_has_its_name_and_probes(rt: HostRuntime) -> Result<(), Fail> {
-    for (actor, kind, probes) in KINDS {
-        assert_eq!(rt; actor.copy(rt.alloc())?, actor);
-        assert_eq!(rt; actor.kind(), kind);
+    let actors = actors(rt.alloc())?;
+    assert_eq!(rt; actors.len(), KINDS.len());
+    for (actor, (kind, probes)) in actors.iter().zip(KINDS.iter()) {
+        let copy = actor.copy(rt.alloc())?;
+        assert_eq!(rt; copy.kind(), *kind);
+        assert_eq!(rt; actor.kind(), *kind);
         assert_eq!(rt; actor.probes() as usize, probes.len());
         for (number, probe) in probes.iter().enumerate() {
             assert!(rt; number < actor.probes() as usize);

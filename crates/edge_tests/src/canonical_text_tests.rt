@@ -32,7 +32,7 @@ const CANONICAL: [(&str, &str); 4] = [
 
 #[test]
 fn a_scenario_and_its_canonical_text_print_alike(rt: HostRuntime) -> Result<(), Fail> {
-    for (text, canonical) in CANONICAL {
+    for &(text, canonical) in &CANONICAL {
         for text in [text, canonical] {
             let printed = printed(rt.alloc(), text.as_bytes())?;
             assert_eq!(rt; printed.as_slice(), canonical.as_bytes(), "{text}");

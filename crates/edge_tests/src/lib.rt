@@ -1,5 +1,5 @@
 //! Cases of the edge through its public calls: rules, the text of a run, scenarios and their canonical
-//! texts, actors of any kind, and command words. What is expected was worked out by hand or by another
+//! texts, actors of any kind, command words, and commands. What is expected was worked out by hand or by another
 //! program.
 #![tactic(auto)]
 
@@ -7,6 +7,10 @@
 mod any_actor_tests;
 #[cfg(test)]
 mod canonical_text_tests;
+#[cfg(test)]
+mod command_tests;
+#[cfg(test)]
+mod format_tests;
 #[cfg(test)]
 mod refusal_tests;
 #[cfg(test)]

@@ -5,7 +5,7 @@ use std::test::Fail;
 
 /// Why a text is refused; fields stand by their names, and 0 as an actor is the whole.
 #[derive(Clone, Copy)]
-enum Cause<'a> {
+pub(crate) enum Cause<'a> {
     NotJson,
     WrongType(u32, &'a str),
     Missing(u32, &'a str),
@@ -48,7 +48,11 @@ fn refusal(cause: Cause<'_>) -> Result<Refusal, Fail> {
 }
 
 /// The text is refused by this cause.
-fn refuses(rt: &(impl AllocGlobal + Abort), text: &str, cause: Cause<'_>) -> Result<(), Fail> {
+pub(crate) fn refuses(
+    rt: &(impl AllocGlobal + Abort),
+    text: &str,
+    cause: Cause<'_>,
+) -> Result<(), Fail> {
     let expected = refusal(cause)?;
     let read = Scenario::read(rt.alloc(), text.as_bytes());
     match &read {
@@ -59,7 +63,10 @@ fn refuses(rt: &(impl AllocGlobal + Abort), text: &str, cause: Cause<'_>) -> Res
 }
 
 /// Each of these texts is refused by its cause: the first check that fails.
-fn refuses_each(rt: &(impl AllocGlobal + Abort), cases: &[(&str, Cause<'_>)]) -> Result<(), Fail> {
+pub(crate) fn refuses_each(
+    rt: &(impl AllocGlobal + Abort),
+    cases: &[(&str, Cause<'_>)],
+) -> Result<(), Fail> {
     for (text, cause) in cases {
         refuses(rt, text, *cause)?;
     }
@@ -83,7 +90,7 @@ const WHOLE: [(&str, Cause); 19] = [
     (r#"{"format":1,"last_tick":4}"#, Missing(0, "actors")),
     (r#"{"format":1,"actors":[]}"#, Missing(0, "last_tick")),
     (r#"{"format":1,"zeta":1}"#, UnknownField(0, "zeta")),
-    (r#"{"format":1,"urgent":[]}"#, UnknownField(0, "urgent")),
+    (r#"{"format":1,"urgent":[]}"#, Missing(0, "last_tick")),
     (
         r#"{"format":1,"zeta":1,"Zeta":2,"actors":[]}"#,
         UnknownField(0, "Zeta"),
@@ -180,8 +187,8 @@ const NUMBERS: [(&str, Cause); 24] = [
         OutOfRange(0, "seed", -9223372036854775808),
     ),
     (
-        r#"{"format":2,"seed":[],"last_tick":1}"#,
-        OutOfRange(0, "format", 2),
+        r#"{"format":3,"seed":[],"last_tick":1}"#,
+        OutOfRange(0, "format", 3),
     ),
     (
         r#"{"format":1,"seed":-1,"last_tick":4,"actors":[]}"#,
@@ -278,7 +285,7 @@ const LISTS: [(&str, Cause); 16] = [
     ),
     (
         r#"{"format":1,"last_tick":4,"actors":[{"name":"o","kind":"origin","route":["r"],"period":1,"count":2}]}"#,
-        UnknownKind(1),
+        UnknownActor(1, "route"),
     ),
 ];
 

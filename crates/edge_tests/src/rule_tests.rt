@@ -48,7 +48,7 @@ const KEPT: [(&[&str], &str, bool); 22] = [
 #[test]
 fn the_last_rule_that_matches_decides(rt: HostRuntime) -> Result<(), Fail> {
     let actor = Name::read(b"aab").ok_or("a name")?;
-    for (texts, probe, kept) in KEPT {
+    for &(texts, probe, kept) in &KEPT {
         let rules = read(rt.alloc(), texts)??;
         assert_eq!(rt; rules.keeps(&actor, probe), kept, "{texts:?}");
     }
@@ -82,7 +82,7 @@ const BAD: [(&[&str], u32); 12] = [
 
 #[test]
 fn the_first_text_that_is_no_rule_is_told(rt: HostRuntime) -> Result<(), Fail> {
-    for (texts, number) in BAD {
+    for &(texts, number) in &BAD {
         let told = match read(rt.alloc(), texts)? {
             Ok(_) => 0,
             Err(RulesFault::BadRule(number)) => number,

@@ -50,7 +50,7 @@ fn member(alloc: Global, id: u32, name: &str, probes: &[&str]) -> Result<Member,
 
 fn rows(alloc: Global) -> Result<Vec<Row>, Fail> {
     let mut rows = Vec::new(alloc);
-    for (tick, diasca, actor, probe, value) in ROWS {
+    for &(tick, diasca, actor, probe, value) in &ROWS {
         rows.push(Row {
             at: Moment { tick, diasca },
             actor: ActorId(actor),
@@ -63,7 +63,7 @@ fn rows(alloc: Global) -> Result<Vec<Row>, Fail> {
 
 fn results(alloc: Global, ending: Ending, dead_letters: u64) -> Result<Results, Fail> {
     let mut cast = Vec::new(alloc);
-    for (id, name, probes) in CAST {
+    for &(id, name, probes) in &CAST {
         cast.push(member(alloc, id, name, probes)?)?;
     }
     Ok(Results {
@@ -108,7 +108,7 @@ const TEXTS: [(&[&str], Ending, u64, &str); 6] = [
 #[test]
 fn a_text_has_the_kept_series_of_each_actor(rt: HostRuntime) -> Result<(), Fail> {
     let alloc = rt.alloc();
-    for (rules, ending, dead_letters, lines) in TEXTS {
+    for &(rules, ending, dead_letters, lines) in &TEXTS {
         let rules = rules_of(alloc, rules)?;
         let text = text(alloc, &results(alloc, ending, dead_letters)?, &rules)?;
         let expected = format!(in alloc; "tick,diasca,actor,probe,value\n{lines}")?;

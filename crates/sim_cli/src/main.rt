@@ -1,5 +1,5 @@
-//! The program `sim_cli WORDS..`: it reads a scenario from standard input, writes the result to
-//! standard output, and ends with the status as its exit code.
+//! The program `sim_cli WORDS..`: it reads from standard input what the command reads, writes the answer
+//! to standard output, and ends with the status as its exit code.
 #![tactic(auto)]
 
 mod words;
@@ -13,7 +13,7 @@ fn main(rt: HostRuntime) -> ExitCode {
     let Ok(words) = command_words(&rt, rt.alloc()) else {
         return ExitCode::from(Status::NoMemory.code());
     };
-    let status = simulate(
+    let ran = simulate(
         &rt,
         rt.alloc(),
         words.as_slice(),
@@ -22,5 +22,5 @@ fn main(rt: HostRuntime) -> ExitCode {
         &mut StdErr::new(rt.stderr()),
         &OpenGate,
     );
-    ExitCode::from(status.code())
+    ExitCode::from(ran.status.code())
 }

@@ -1,114 +1,34 @@
 -- What each status says follows from what the call came to.
-use Rattle.std.proofs.Common.{◌≡◌, ◌≢◌, inl, inr, ℕ, ◌+◌, ◌<◌, ◌≤◌, List, [], ◌++◌, drop, length, nat_lt, Option, Some, None, Ok, Err, is_err, true, false, refl, sym, ap, subst, append-nil, ◌∙◌, arith, length-append}
-use Rattle.std.proofs.Math.Seq.{drop-append_seam}
+use Rattle.std.proofs.Common.{◌≡◌, ◌≢◌, inl, inr, ℕ, ◌+◌, ◌<◌, ◌≤◌, List, length, nat_lt, Option, Some, None, Result, Ok, Err, is_err, true, false, refl, sym, ap, subst, ◌∙◌, arith}
 use Rattle.std.proofs.lemmas.Bool.Decides.{nat_tests}
-use Rattle.std.specs.Io.KnownBytes.{Consumes, Appends, IsAtEnd}
-use Rattle.sim_base.specs.Outside.{Rose}
+use Rattle.quiescence.specs.Rounds.{no_rounds}
 use Rattle.sim_base.specs.declared.status.Status.{Status}
 use Rattle.sim_base.specs.declared.status.Status.TheVariants as status
-use Rattle.scenario.specs.Format.{scenario_of}
-use Rattle.scenario.specs.ScenarioParts.{ScenarioParts}
-use Rattle.sim_top.specs.Answer.{answer}
-use Rattle.sim_top.specs.Clauses.{GivesAnswer, OutputFaultByCause, ScenarioRefusedExactly, TriesErrorLine, WordsRefusedFirst}
-use Rattle.sim_top.specs.Lines.{Told, Tries, line_for, status_for, words_line}
+use Rattle.sim_top.proofs.Rounds.{unrun}
+use Rattle.sim_top.proofs.Taking.{rest_left, taken_all, taken_within}
+use Rattle.sim_top.specs.Clauses.{FailsExactly, Fits, GivesAnswer, GivesFront, InputRefusedExactly, IsAnswer, LeavesInput, TakesNoMore, TriesErrorLine, WordsRefusedFirst, rest_of}
+use Rattle.sim_top.specs.Lines.{Told, Tries, line_for, ran_for, words_line}
 use Rattle.sim_top.specs.Statuses.{IsEnding, IsEndingOrMemory, WritesNothing}
-use Rattle.sim_top.specs.Verdicts.{HasRead, IsAccepted, Judged, Outside, limit}
-use Rattle.sim_top.specs.Words.{order_of}
+use Rattle.sim_top.specs.Tasks.{Task, answer, answer_by, limit, reading_of, reads, reads_nothing, reads_scenario, task_of}
+use Rattle.sim_top.specs.Verdicts.{Comes, Ends, Gets, InputSound, InputStays, Judged, OutputStays, ReadsAll, TakesSome}
+use Rattle.sim_top.specs.declared.answer.Answer.{Answer}
+use Rattle.sim_top.specs.declared.reading.InputRefusal.{InputRefusal}
+use Rattle.sim_top.specs.declared.reading.Reading.{Reading}
+use Rattle.sim_top.specs.declared.verdict.Verdict.{Verdict}
+use Rattle.sim_top.specs.declared.verdict.Verdict.TheVariants.{Ended, Words, Refused, TooLong, InputFault, OutputFault, NoMemory}
 use Rattle.sim_top.specs.declared.words.Order.{Order}
 use Rattle.sim_top.specs.declared.words.WordsRefusal.{WordsRefusal}
-use Rattle.sim_top.specs.declared.verdict.Verdict.{Verdict}
-use Rattle.sim_top.specs.declared.verdict.Verdict.TheVariants.{Ended, Words, Scenario, TooLong, InputFault, OutputFault, NoMemory}
+
+abbrev st : Verdict → Status
+st v = (ran_for v).status
+
+-- ---- facts on statuses
 
 -- an ending is none of the other statuses
-ending_is_no : (st other : Status) → IsEnding st → (IsEnding other → ⊥) → st ≢ other
-ending_is_no st other h never e = never (let P : Status → Type 0 = λ s. IsEnding s in subst P e h)
+ending_is_no : (s other : Status) → IsEnding s → (IsEnding other → ⊥) → s ≢ other
+ending_is_no s other h never e = never (let P : Status → Type 0 = λ s. IsEnding s in subst P e h)
 
-words_fit : (words : List (List ℕ)) (before after : Outside) (st : Status) (o : Order) → st ≢ status.WordsRefused → order_of words ≡ Ok o → WordsRefusedFirst words before after st
-words_fit words before after st o ne fit = record {
-  only = λ e. absurd (ne e);
-  always = λ s. let t : false ≡ true = rw fit at s in cc;
-  untouched = λ e. absurd (ne e);
-}
-
-pub words_first : (words : List (List ℕ)) (before after : Outside) (v : Verdict) → Judged words before after v → WordsRefusedFirst words before after (status_for v)
-words_first words before after (Ended st) h = words_fit words before after st h.0.order (ending_is_no st status.WordsRefused h.3 (λ x. x)) h.0.words_fit
-words_first words before after OutputFault h = words_fit words before after _ h.0.order (λ e. cc) h.0.words_fit
-words_first words before after (Words r) h = record { only = λ e. rw h.0 refl; always = λ s. refl; untouched = λ e. h.1 }
-words_first words before after (Scenario r) h = words_fit words before after _ h.0.0 (λ e. cc) h.0.1
-words_first words before after TooLong h = words_fit words before after _ h.0.0 (λ e. cc) h.0.1
-words_first words before after InputFault h = words_fit words before after _ h.0.0 (λ e. cc) h.0.1
-words_first words before after NoMemory h = words_fit words before after _ h.0.0 (λ e. cc) h.0.1
-
-pub input_fault : (words : List (List ℕ)) (before after : Outside) (v : Verdict) → Judged words before after v
-    → status_for v ≡ status.InputFault → Rose before.input_faults after.input_faults
-input_fault words before after (Ended st) h e = absurd (ending_is_no st status.InputFault h.3 (λ x. x) e)
-input_fault words before after OutputFault h e = cc
-input_fault words before after (Words r) h e = cc
-input_fault words before after (Scenario r) h e = cc
-input_fault words before after TooLong h e = cc
-input_fault words before after InputFault h e = h.1
-input_fault words before after NoMemory h e = cc
-
--- all of an input that is told was taken
-taken_all : (left after : Option (List ℕ)) (bytes taken : List ℕ) → left ≡ Some bytes → Consumes left after taken → IsAtEnd after → (taken ≡ bytes) × (after ≡ Some [])
-taken_all None after bytes taken told c end = cc
-taken_all (Some xs) None bytes taken told c end = absurd c
-taken_all (Some xs) (Some ys) bytes taken told c end =
-    let same : xs ≡ bytes = cc in
-    let all : xs ≡ taken ++ [] = rw end at c in
-    (sym (all ∙ append-nil taken) ∙ same, ap Some end)
-
-added : (before after : Option (List ℕ)) (written text : List ℕ) → before ≡ Some written → Appends before after text → after ≡ Some (written ++ text)
-added None after written text told a = cc
-added (Some xs) None written text told a = absurd a
-added (Some xs) (Some ys) written text told a = let same : xs ≡ written = cc in rw (a, same) refl
-
-ended : (words : List (List ℕ)) (before after : Outside) (st : Status) (bytes written : List ℕ) (a : IsAccepted words before after)
-    → Appends before.written after.written (answer a.order.command a.scenario).text → st ≡ (answer a.order.command a.scenario).status
-    → before.left ≡ Some bytes → before.written ≡ Some written → GivesAnswer words before after st bytes written
-ended words before after st bytes written a text same told told2 =
-    let r = a.input in
-    let all = taken_all before.left after.left bytes r.bytes told r.taken r.at_end in
-    record {
-      order = a.order;
-      words_fit = a.words_fit;
-      nothing_left = all.1;
-      scenario = a.scenario;
-      read = rw all.0 at r.read;
-      output = added before.written after.written written (answer a.order.command a.scenario).text told2 text;
-      same = same;
-    }
-
-pub the_answer : (words : List (List ℕ)) (before after : Outside) (v : Verdict) (bytes written : List ℕ) → Judged words before after v
-    → IsEnding (status_for v) → before.left ≡ Some bytes → before.written ≡ Some written → GivesAnswer words before after (status_for v) bytes written
-the_answer words before after (Ended st) bytes written h e told told2 = ended words before after st bytes written h.0 h.1 h.2 told told2
-the_answer words before after OutputFault bytes written h e told told2 = absurd e
-the_answer words before after (Words r) bytes written h e told told2 = absurd e
-the_answer words before after (Scenario r) bytes written h e told told2 = absurd e
-the_answer words before after TooLong bytes written h e told told2 = absurd e
-the_answer words before after InputFault bytes written h e told told2 = absurd e
-the_answer words before after NoMemory bytes written h e told told2 = absurd e
-
-pub nothing_written : (words : List (List ℕ)) (before after : Outside) (v : Verdict) → Judged words before after v
-    → WritesNothing (status_for v) → after.written ≡ before.written
-nothing_written words before after (Ended st) h e = absurd (contrary st h.3 e) where
-  contrary : (st : Status) → IsEnding st → WritesNothing st → ⊥
-  contrary status.Done a b = b
-  contrary status.ActorFault a b = b
-  contrary status.DiascaLimit a b = b
-  contrary status.InputFault a b = a
-  contrary status.OutputFault a b = a
-  contrary status.WordsRefused a b = a
-  contrary status.ScenarioRefused a b = a
-  contrary status.NoMemory a b = a
-nothing_written words before after OutputFault h e = absurd e
-nothing_written words before after (Words r) h e = ap (λ o. o.written) h.1
-nothing_written words before after (Scenario r) h e = h.2
-nothing_written words before after TooLong h e = h.2
-nothing_written words before after InputFault h e = h.2
-nothing_written words before after NoMemory h e = h.1
-
-ending_or_memory : (st : Status) → IsEnding st → IsEndingOrMemory st
+ending_or_memory : (s : Status) → IsEnding s → IsEndingOrMemory s
 ending_or_memory status.Done a = tt
 ending_or_memory status.ActorFault a = tt
 ending_or_memory status.DiascaLimit a = tt
@@ -118,189 +38,410 @@ ending_or_memory status.WordsRefused a = a
 ending_or_memory status.ScenarioRefused a = a
 ending_or_memory status.NoMemory a = tt
 
--- no more was taken than there was
-taken_within : (left after : Option (List ℕ)) (bytes taken : List ℕ) → left ≡ Some bytes → Consumes left after taken → length taken ≤ length bytes
-taken_within None after bytes taken told c = cc
-taken_within (Some xs) None bytes taken told c = absurd c
-taken_within (Some xs) (Some ys) bytes taken told c =
-    let same : xs ≡ bytes = cc in omega (arith, ap length (sym same ∙ c), length-append taken ys)
+ending_writes : (s : Status) → IsEnding s → WritesNothing s → ⊥
+ending_writes status.Done a b = b
+ending_writes status.ActorFault a b = b
+ending_writes status.DiascaLimit a b = b
+ending_writes status.InputFault a b = a
+ending_writes status.OutputFault a b = a
+ending_writes status.WordsRefused a b = a
+ending_writes status.ScenarioRefused a b = a
+ending_writes status.NoMemory a b = a
 
-pub completes : (words : List (List ℕ)) (before after : Outside) (v : Verdict) (o : Order) (bytes : List ℕ) (s : ScenarioParts) → Judged words before after v
-    → order_of words ≡ Ok o → (Rose before.input_faults after.input_faults → ⊥) → (Rose before.output_faults after.output_faults → ⊥)
-    → before.left ≡ Some bytes → length bytes ≤ limit → scenario_of bytes ≡ Ok s → IsEndingOrMemory (status_for v)
-completes words before after (Ended st) o bytes s h fit in_ok out_ok told small ok = ending_or_memory st h.3
-completes words before after OutputFault o bytes s h fit in_ok out_ok told small ok = absurd (out_ok h.2)
-completes words before after (Words r) o bytes s h fit in_ok out_ok told small ok = let clash : Err r ≡ Ok o = sym h.0 ∙ fit in cc
-completes words before after (Scenario r) o bytes s h fit in_ok out_ok told small ok =
-    let all = taken_all before.left after.left bytes h.1.bytes told h.1.taken h.1.at_end in
-    let clash : Err r ≡ Ok s = sym (rw all.0 at h.1.read) ∙ ok in cc
-completes words before after TooLong o bytes s h fit in_ok out_ok told small ok =
-    absurd (omega (arith, taken_within before.left after.left bytes h.1.bytes told h.1.taken, h.1.past))
-completes words before after InputFault o bytes s h fit in_ok out_ok told small ok = absurd (in_ok h.1)
-completes words before after NoMemory o bytes s h fit in_ok out_ok told small ok = tt
+-- refused words have their status
+words_status : (v : Verdict) (r : WordsRefusal) → v ≡ Words r → st v ≡ status.WordsRefused
+words_status v r e = ap st e
 
--- what is left behind so many bytes
-rest_left : (left after : Option (List ℕ)) (bytes taken : List ℕ) (n : ℕ) → left ≡ Some bytes → Consumes left after taken → length taken ≡ n → after ≡ Some (drop n bytes)
-rest_left None after bytes taken n told c e = cc
-rest_left (Some xs) None bytes taken n told c e = absurd c
-rest_left (Some xs) (Some ys) bytes taken n told c e =
-    let same : bytes ≡ taken ++ ys = let whole : xs ≡ bytes = cc in sym whole ∙ c in
-    ap Some (rw (same, ← e) (sym (drop-append_seam taken ys)))
+-- no answer of one order is that of another
+same_order : (o p : Order) → ◌≡◌ {A = Result Order WordsRefusal} (Ok o) (Ok p) → o ≡ p
+same_order o p e = cc
 
--- what was read was the scenario of the whole input
-accepted : (before after : Outside) (s : ScenarioParts) (bytes : List ℕ) → HasRead before after s → before.left ≡ Some bytes
-    → (scenario_of bytes ≡ Ok s) × (length bytes ≤ limit) × (after.left ≡ Some [])
-accepted before after s bytes r told =
-    let all = taken_all before.left after.left bytes r.bytes told r.taken r.at_end in
-    (rw all.0 at r.read, rw all.0 at r.fits, all.1)
+-- ---- facts on the input
 
-not_refused : (before after : Outside) (st : Status) (bytes : List ℕ) (s : ScenarioParts) → st ≢ status.ScenarioRefused
-    → scenario_of bytes ≡ Ok s → length bytes ≤ limit → ScenarioRefusedExactly before after st bytes
-not_refused before after st bytes s ne ok fits = record {
-  only = λ e. absurd (ne e);
-  too_long = λ long. absurd (omega arith);
-  refused = λ err. let t : false ≡ true = rw ok at err in cc;
-  one_past = λ e. absurd (ne e);
-  nothing_left = λ e. absurd (ne e);
-}
+some_reading : (r : Reading) (x : Option Reading) → x ≡ Some r → x ≡ None → ⊥
+some_reading r x s n = let clash : Some r ≡ None = sym s ∙ n in cc
 
-pub scenario_refused : (words : List (List ℕ)) (before after : Outside) (v : Verdict) (o : Order) (bytes : List ℕ) → Judged words before after v
-    → order_of words ≡ Ok o → status_for v ≢ status.InputFault → status_for v ≢ status.NoMemory → before.left ≡ Some bytes
-    → ScenarioRefusedExactly before after (status_for v) bytes
-scenario_refused words before after (Ended st) o bytes h fit ni nm told =
-    let a = accepted before after h.0.scenario bytes h.0.input told in
-    not_refused before after st bytes h.0.scenario (ending_is_no st status.ScenarioRefused h.3 (λ x. x)) a.0 a.1
-scenario_refused words before after OutputFault o bytes h fit ni nm told =
-    let a = accepted before after h.0.scenario bytes h.0.input told in
-    not_refused before after _ bytes h.0.scenario (λ e. cc) a.0 a.1
-scenario_refused words before after (Words r) o bytes h fit ni nm told = let clash : Err r ≡ Ok o = sym h.0 ∙ fit in cc
-scenario_refused words before after (Scenario r) o bytes h fit ni nm told =
-    let all = taken_all before.left after.left bytes h.1.bytes told h.1.taken h.1.at_end in
-    let fits : length bytes ≤ limit = rw all.0 at h.1.fits in
-    record {
-      only = λ e. inr (ap is_err (rw all.0 at h.1.read));
-      too_long = λ long. refl;
-      refused = λ err. refl;
-      one_past = λ e long. absurd (omega arith);
-      nothing_left = λ e few. all.1;
+module _ {S O : Type 0} (e : Ends S O) where
+  got_sound : (reading : Option Reading) (bytes : List ℕ) → Gets e reading bytes → InputSound e
+  got_sound None bytes h = ap e.input_faults h.0
+  got_sound (Some reading) bytes h = h.sound
+
+  took_sound : (reading : Option Reading) → TakesSome e reading → InputSound e
+  took_sound None h = ap e.input_faults h
+  took_sound (Some reading) h = h.1
+
+  got_nothing : (reading : Option Reading) (bytes : List ℕ) → reading ≡ None → Gets e reading bytes → InputStays e
+  got_nothing None bytes is h = h.0
+  got_nothing (Some reading) bytes is h = absurd (some_reading reading (Some reading) refl is)
+
+  took_nothing : (reading : Option Reading) → reading ≡ None → TakesSome e reading → InputStays e
+  took_nothing None is h = h
+  took_nothing (Some reading) is h = absurd (some_reading reading (Some reading) refl is)
+
+  read_all : (x : Option Reading) (reading : Reading) (bytes : List ℕ) → x ≡ Some reading → Gets e x bytes → ReadsAll e reading bytes
+  read_all None reading bytes is h = let clash : None ≡ Some reading = is in cc
+  read_all (Some r) reading bytes is h = let same : r ≡ reading = cc in subst (λ (r : Reading). ReadsAll e r bytes) same h
+
+  took_some : (x : Option Reading) (reading : Reading) → x ≡ Some reading → TakesSome e x → TakesSome e (Some reading)
+  took_some x reading is h = subst (λ (x : Option Reading). TakesSome e x) is h
+
+  -- what words came to that are this order
+  pub of_ok : (order : Result Order WordsRefusal) (o : Order) (v : Verdict) → Judged order e v → order ≡ Ok o → Comes o e v
+  of_ok (Ok p) o v h is = subst (λ (p : Order). Comes p e v) (same_order p o is) h
+  of_ok (Err r) o v h is = let clash : Err r ≡ Ok o = is in cc
+
+  -- ---- refused words
+
+  never_words : (o : Order) (v : Verdict) → Comes o e v → st v ≢ status.WordsRefused
+  never_words o (Ended s rounds) h q = ending_is_no s status.WordsRefused h.2.5 (λ x. x) q
+  never_words o (OutputFault rounds) h q = cc
+  never_words o (Refused r) h q = cc
+  never_words o (TooLong reading) h q = cc
+  never_words o InputFault h q = cc
+  never_words o NoMemory h q = cc
+  never_words o (Words r) h q = absurd h
+
+  pub words_first : (order : Result Order WordsRefusal) (v : Verdict) → Judged order e v → WordsRefusedFirst order e (st v)
+  words_first (Ok o) v h = record {
+    only = λ q. absurd (never_words o v h q);
+    always = λ t. cc;
+    input_untouched = λ q. absurd (never_words o v h q);
+    output_untouched = λ q. absurd (never_words o v h q);
+  }
+  words_first (Err r) v h = record {
+    only = λ q. refl;
+    always = λ t. words_status v r h.0;
+    input_untouched = λ q. h.1;
+    output_untouched = λ q. h.2;
+  }
+
+  -- ---- the counts of faults
+
+  input_counts : (o : Order) (v : Verdict) → Comes o e v → FailsExactly status.InputFault (st v) (e.input_faults e.input_before) (e.input_faults e.input_after)
+  input_counts o (Ended s rounds) h = record {
+    rises = λ q. absurd (ending_is_no s status.InputFault h.2.5 (λ x. x) q);
+    stays = λ n. got_sound (reads o) h.0 h.1;
+  }
+  input_counts o (OutputFault rounds) h = record { rises = λ q. cc; stays = λ n. got_sound (reads o) h.0 h.1 }
+  input_counts o (Refused r) h = record { rises = λ q. cc; stays = λ n. got_sound (reads o) h.0 h.1 }
+  input_counts o (TooLong reading) h = record { rises = λ q. cc; stays = λ n. h.1.sound }
+  input_counts o InputFault h = record { rises = λ q. h.3; stays = λ n. absurd (n refl) }
+  input_counts o NoMemory h = record { rises = λ q. cc; stays = λ n. took_sound (reads o) h.0 }
+  input_counts o (Words r) h = absurd h
+
+  pub input_fails : (order : Result Order WordsRefusal) (v : Verdict) → Judged order e v
+      → FailsExactly status.InputFault (st v) (e.input_faults e.input_before) (e.input_faults e.input_after)
+  input_fails (Ok o) v h = input_counts o v h
+  input_fails (Err r) v h = record {
+    rises = λ q. let clash : status.WordsRefused ≡ status.InputFault = sym (words_status v r h.0) ∙ q in cc;
+    stays = λ n. ap e.input_faults h.1;
+  }
+
+  output_counts : (o : Order) (v : Verdict) → Comes o e v → FailsExactly status.OutputFault (st v) (e.output_faults e.output_before) (e.output_faults e.output_after)
+  output_counts o (Ended s rounds) h = record {
+    rises = λ q. absurd (ending_is_no s status.OutputFault h.2.5 (λ x. x) q);
+    stays = λ n. h.2.2.sound;
+  }
+  output_counts o (OutputFault rounds) h = record { rises = λ q. h.2.2.fails; stays = λ n. absurd (n refl) }
+  output_counts o (Refused r) h = record { rises = λ q. cc; stays = λ n. ap e.output_faults h.2.1 }
+  output_counts o (TooLong reading) h = record { rises = λ q. cc; stays = λ n. ap e.output_faults h.2 }
+  output_counts o InputFault h = record { rises = λ q. cc; stays = λ n. ap e.output_faults h.4 }
+  output_counts o NoMemory h = record { rises = λ q. cc; stays = λ n. ap e.output_faults h.1 }
+  output_counts o (Words r) h = absurd h
+
+  pub output_fails : (order : Result Order WordsRefusal) (v : Verdict) → Judged order e v
+      → FailsExactly status.OutputFault (st v) (e.output_faults e.output_before) (e.output_faults e.output_after)
+  output_fails (Ok o) v h = output_counts o v h
+  output_fails (Err r) v h = record {
+    rises = λ q. let clash : status.WordsRefused ≡ status.OutputFault = sym (words_status v r h.0) ∙ q in cc;
+    stays = λ n. ap e.output_faults h.2;
+  }
+
+  -- ---- refused input
+
+  not_refused : (o : Order) (reading : Reading) (bytes : List ℕ) (left : Option (List ℕ)) (s : Status) (a : Answer) → s ≢ status.ScenarioRefused
+      → answer o bytes ≡ Ok a → length bytes ≤ limit reading → InputRefusedExactly o reading bytes left s
+  not_refused o reading bytes left s a never ok fits = record {
+    only = λ q. absurd (never q);
+    too_long = λ long. absurd (omega arith);
+    refused = λ err. let t : false ≡ true = rw ok at err in cc;
+    one_past = λ q. absurd (never q);
+    nothing_left = λ q. absurd (never q);
+  }
+
+  accepted : (o : Order) (reading : Reading) (bytes got : List ℕ) (s : Status) (a : Answer) → reads o ≡ Some reading → e.left e.input_before ≡ Some bytes
+      → Gets e (reads o) got → answer o got ≡ Ok a → s ≢ status.ScenarioRefused → InputRefusedExactly o reading bytes (e.left e.input_after) s
+  accepted o reading bytes got s a is told h ok never =
+      let r = read_all (reads o) reading got is h in
+      let all = taken_all (e.left e.input_before) (e.left e.input_after) bytes got told r.taken r.at_end in
+      not_refused o reading bytes (e.left e.input_after) s a never (rw all.0 at ok) (rw all.0 at r.fits)
+
+  pub refused_exactly : (o : Order) (v : Verdict) (reading : Reading) (bytes : List ℕ) → Comes o e v → reads o ≡ Some reading → e.left e.input_before ≡ Some bytes
+      → st v ≢ status.InputFault → st v ≢ status.NoMemory → InputRefusedExactly o reading bytes (e.left e.input_after) (st v)
+  refused_exactly o (Ended s rounds) reading bytes h is told nf nm =
+      accepted o reading bytes h.0 s h.2.0 is told h.1 h.2.1 (ending_is_no s status.ScenarioRefused h.2.5 (λ x. x))
+  refused_exactly o (OutputFault rounds) reading bytes h is told nf nm =
+      accepted o reading bytes h.0 status.OutputFault h.2.0 is told h.1 h.2.1 (λ q. cc)
+  refused_exactly o (Refused r) reading bytes h is told nf nm =
+      let all_read = read_all (reads o) reading h.0 is h.1 in
+      let all = taken_all (e.left e.input_before) (e.left e.input_after) bytes h.0 told all_read.taken all_read.at_end in
+      let fits : length bytes ≤ limit reading = rw all.0 at all_read.fits in
+      record {
+        only = λ q. inr (ap is_err (rw all.0 at h.2.0));
+        too_long = λ long. refl;
+        refused = λ err. refl;
+        one_past = λ q long. absurd (omega arith);
+        nothing_left = λ q few. all.1;
+      }
+  refused_exactly o (TooLong r) reading bytes h is told nf nm =
+      let same : r ≡ reading = let both : Some r ≡ Some reading = sym h.0 ∙ is in cc in
+      let t = h.1.taken in
+      let count : length t.taken ≡ limit reading + 1 = rw same at t.exactly in
+      let past : limit reading < length bytes = omega (arith, taken_within (e.left e.input_before) (e.left e.input_after) bytes t.taken told t.consumes, count) in
+      record {
+        only = λ q. inl past;
+        too_long = λ long. refl;
+        refused = λ err. refl;
+        one_past = λ q long. rest_left (e.left e.input_before) (e.left e.input_after) bytes t.taken (limit reading + 1) told t.consumes count;
+        nothing_left = λ q few. absurd (omega arith);
+      }
+  refused_exactly o InputFault reading bytes h is told nf nm = absurd (nf refl)
+  refused_exactly o NoMemory reading bytes h is told nf nm = absurd (nm refl)
+  refused_exactly o (Words r) reading bytes h is told nf nm = absurd h
+
+  -- ---- an input that isn't read, or not to its end
+
+  never_refused : (t : Task) (bytes : List ℕ) (r : InputRefusal) → reading_of t ≡ None → answer_by t bytes ≡ Err r → ⊥
+  never_refused (reads_nothing a) bytes r none h = let clash : Ok a ≡ Err r = h in cc
+  never_refused (reads_scenario f) bytes r none h = cc
+
+  pub leaves_input : (o : Order) (v : Verdict) → Comes o e v → reads o ≡ None → LeavesInput e (st v)
+  leaves_input o (Ended s rounds) h none = record {
+    untouched = got_nothing (reads o) h.0 none h.1;
+    no_fault = ending_is_no s status.InputFault h.2.5 (λ x. x);
+    no_refusal = ending_is_no s status.ScenarioRefused h.2.5 (λ x. x);
+  }
+  leaves_input o (OutputFault rounds) h none = record { untouched = got_nothing (reads o) h.0 none h.1; no_fault = λ q. cc; no_refusal = λ q. cc }
+  leaves_input o (Refused r) h none = absurd (never_refused (task_of o.command o.plan) h.0 r none h.2.0)
+  leaves_input o (TooLong reading) h none = absurd (some_reading reading (reads o) h.0 none)
+  leaves_input o InputFault h none = absurd (some_reading h.0 (reads o) h.1 none)
+  leaves_input o NoMemory h none = record { untouched = took_nothing (reads o) none h.0; no_fault = λ q. cc; no_refusal = λ q. cc }
+  leaves_input o (Words r) h none = absurd h
+
+  pub takes_no_more : (o : Order) (v : Verdict) (reading : Reading) → Comes o e v → reads o ≡ Some reading → TakesNoMore reading (e.left e.input_before) (e.left e.input_after) (st v)
+  takes_no_more o (Ended s rounds) reading h is = record {
+    input_fault = λ q. absurd (ending_is_no s status.InputFault h.2.5 (λ x. x) q);
+    no_memory = λ q. absurd (ending_is_no s status.NoMemory h.2.5 (λ x. x) q);
+  }
+  takes_no_more o (OutputFault rounds) reading h is = record { input_fault = λ q. cc; no_memory = λ q. cc }
+  takes_no_more o (Refused r) reading h is = record { input_fault = λ q. cc; no_memory = λ q. cc }
+  takes_no_more o (TooLong r) reading h is = record { input_fault = λ q. cc; no_memory = λ q. cc }
+  takes_no_more o InputFault reading h is =
+      let same : h.0 ≡ reading = let both : Some h.0 ≡ Some reading = sym h.1 ∙ is in cc in
+      record { input_fault = λ q. rw same at h.2; no_memory = λ q. cc }
+  takes_no_more o NoMemory reading h is = record { input_fault = λ q. cc; no_memory = λ q. (took_some (reads o) reading is h.0).0 }
+  takes_no_more o (Words r) reading h is = absurd h
+
+  -- ---- the answer
+
+  -- what a task answers to what it was given, it answers to the whole input
+  of_whole : (t : Task) (bytes got : List ℕ) (a : Answer) → Gets e (reading_of t) got → e.left e.input_before ≡ Some bytes → answer_by t got ≡ Ok a
+      → (answer_by t bytes ≡ Ok a) × (e.left e.input_after ≡ Some (rest_of (reading_of t) bytes))
+  of_whole (reads_nothing b) bytes got a h told ok = (ok, ap e.left h.0 ∙ told)
+  of_whole (reads_scenario f) bytes got a h told ok =
+      let all = taken_all (e.left e.input_before) (e.left e.input_after) bytes got told h.taken h.at_end in
+      (rw all.0 at ok, all.1)
+
+  is_answer : (o : Order) (bytes got : List ℕ) (a : Answer) → Gets e (reads o) got → e.left e.input_before ≡ Some bytes → answer o got ≡ Ok a
+      → IsAnswer (Ok o) bytes (e.left e.input_after) a
+  is_answer o bytes got a h told ok =
+      let whole = of_whole (task_of o.command o.plan) bytes got a h told ok in
+      record { asked = o; words_fit = refl; is = whole.0; nothing_left = whole.1 }
+
+  no_ending : (v : Verdict) (r : WordsRefusal) → v ≡ Words r → IsEnding (st v) → ⊥
+  no_ending v r is h = subst (λ (s : Status). IsEnding s) (words_status v r is) h
+
+  pub the_answer : (order : Result Order WordsRefusal) (v : Verdict) (bytes : List ℕ) → Judged order e v → IsEnding (st v) → e.left e.input_before ≡ Some bytes
+      → GivesAnswer order bytes (e.left e.input_after) (e.written e.output_before) (e.written e.output_after) (ran_for v)
+  the_answer (Err r) v bytes h end told = absurd (no_ending v r h.0 end)
+  the_answer (Ok o) (Ended s rounds) bytes h end told = record {
+    a = h.2.0;
+    input = is_answer o bytes h.0 h.2.0 h.1 told h.2.1;
+    output = h.2.2.appends;
+    same_status = h.2.3;
+    same_rounds = h.2.4;
+  }
+  the_answer (Ok o) (OutputFault rounds) bytes h end told = absurd end
+  the_answer (Ok o) (Refused r) bytes h end told = absurd end
+  the_answer (Ok o) (TooLong r) bytes h end told = absurd end
+  the_answer (Ok o) InputFault bytes h end told = absurd end
+  the_answer (Ok o) NoMemory bytes h end told = absurd end
+  the_answer (Ok o) (Words r) bytes h end told = absurd h
+
+  pub front_of_answer : (order : Result Order WordsRefusal) (v : Verdict) (bytes : List ℕ) → Judged order e v → st v ≡ status.OutputFault → e.left e.input_before ≡ Some bytes
+      → GivesFront order bytes (e.left e.input_after) (e.written e.output_before) (e.written e.output_after) (ran_for v)
+  front_of_answer (Err r) v bytes h q told = let clash : status.WordsRefused ≡ status.OutputFault = sym (words_status v r h.0) ∙ q in cc
+  front_of_answer (Ok o) (OutputFault rounds) bytes h q told = record {
+    a = h.2.0;
+    input = is_answer o bytes h.0 h.2.0 h.1 told h.2.1;
+    count = h.2.2.count;
+    part = h.2.2.part;
+    output = h.2.2.appends;
+    same_rounds = h.2.3;
+  }
+  front_of_answer (Ok o) (Ended s rounds) bytes h q told = absurd (ending_is_no s status.OutputFault h.2.5 (λ x. x) q)
+  front_of_answer (Ok o) (Refused r) bytes h q told = cc
+  front_of_answer (Ok o) (TooLong r) bytes h q told = cc
+  front_of_answer (Ok o) InputFault bytes h q told = cc
+  front_of_answer (Ok o) NoMemory bytes h q told = cc
+  front_of_answer (Ok o) (Words r) bytes h q told = absurd h
+
+  pub nothing_written : (order : Result Order WordsRefusal) (v : Verdict) → Judged order e v → WritesNothing (st v) → OutputStays e
+  nothing_written (Err r) v h w = h.2
+  nothing_written (Ok o) (Ended s rounds) h w = absurd (ending_writes s h.2.5 w)
+  nothing_written (Ok o) (OutputFault rounds) h w = absurd w
+  nothing_written (Ok o) (Refused r) h w = h.2.1
+  nothing_written (Ok o) (TooLong r) h w = h.2
+  nothing_written (Ok o) InputFault h w = h.4
+  nothing_written (Ok o) NoMemory h w = h.1
+  nothing_written (Ok o) (Words r) h w = absurd h
+
+  -- ---- completeness
+
+  -- what is accepted whole isn't refused
+  not_given : (t : Task) (bytes got : List ℕ) (a : Answer) (r : InputRefusal) → Gets e (reading_of t) got → e.left e.input_before ≡ Some bytes
+      → answer_by t bytes ≡ Ok a → answer_by t got ≡ Err r → ⊥
+  not_given (reads_nothing b) bytes got a r h told ok err = let clash : Ok b ≡ Err r = err in cc
+  not_given (reads_scenario f) bytes got a r h told ok err =
+      let all = taken_all (e.left e.input_before) (e.left e.input_after) bytes got told h.taken h.at_end in
+      let clash : Err r ≡ Ok a = sym (rw all.0 at err) ∙ ok in cc
+
+  fits_some : (x : Option Reading) (reading : Reading) (bytes : List ℕ) → x ≡ Some reading → Fits x bytes → length bytes ≤ limit reading
+  fits_some x reading bytes is h = let fits : Fits (Some reading) bytes = subst (λ (x : Option Reading). Fits x bytes) is h in fits
+
+  pub completes : (o : Order) (v : Verdict) (bytes : List ℕ) (a : Answer) → Comes o e v → e.left e.input_before ≡ Some bytes → Fits (reads o) bytes
+      → answer o bytes ≡ Ok a → st v ≢ status.InputFault → st v ≢ status.OutputFault → IsEndingOrMemory (st v)
+  completes o (Ended s rounds) bytes a h told fits ok nf nf2 = ending_or_memory s h.2.5
+  completes o (OutputFault rounds) bytes a h told fits ok nf nf2 = absurd (nf2 refl)
+  completes o (Refused r) bytes a h told fits ok nf nf2 = absurd (not_given (task_of o.command o.plan) bytes h.0 a r h.1 told ok h.2.0)
+  completes o (TooLong reading) bytes a h told fits ok nf nf2 =
+      let t = h.1.taken in
+      absurd (omega (arith, taken_within (e.left e.input_before) (e.left e.input_after) bytes t.taken told t.consumes, t.exactly, fits_some (reads o) reading bytes h.0 fits))
+  completes o InputFault bytes a h told fits ok nf nf2 = absurd (nf refl)
+  completes o NoMemory bytes a h told fits ok nf nf2 = tt
+  completes o (Words r) bytes a h told fits ok nf nf2 = absurd h
+
+  -- ---- rounds
+
+  pub closed : (order : Result Order WordsRefusal) (v : Verdict) → Judged order e v → (ran_for v).rounds ≡ no_rounds
+  closed (Err r) v h = ap (λ (v : Verdict). (ran_for v).rounds) h.0
+  closed (Ok o) (Ended s rounds) h = h.2.4 ∙ unrun o h.0 h.2.0 h.2.1
+  closed (Ok o) (OutputFault rounds) h = h.2.3 ∙ unrun o h.0 h.2.0 h.2.1
+  closed (Ok o) (Refused r) h = refl
+  closed (Ok o) (TooLong r) h = refl
+  closed (Ok o) InputFault h = refl
+  closed (Ok o) NoMemory h = refl
+  closed (Ok o) (Words r) h = refl
+
+  -- ---- the error sink
+
+  module _ {X : Type 0} (written : X → Option (List ℕ)) (faults : X → ℕ) (old new : X) where
+    abbrev TriesLine : List ℕ → Type 0
+    TriesLine line = Tries (written old) (written new) (faults old) (faults new) line
+
+    abbrev ToldOf : Verdict → Type 0
+    ToldOf v = Told written faults old new (line_for v)
+
+    no_words : (o : Order) (r : WordsRefusal) → Ok o ≡ Err r → TriesLine (words_line r)
+    no_words o r q = cc
+
+    -- the line of an order's verdict
+    line_of_order : (o : Order) (v : Verdict) → Comes o e v → ToldOf v → TriesErrorLine (Ok o) (e.left e.input_before) (st v) TriesLine
+    line_of_order o (Ended s rounds) h t = record {
+      words = no_words o;
+      input = λ p reading bytes is r told q. absurd (ending_is_no s status.ScenarioRefused h.2.5 (λ x. x) q);
+      input_fault = λ q. absurd (ending_is_no s status.InputFault h.2.5 (λ x. x) q);
+      output_fault = λ q. absurd (ending_is_no s status.OutputFault h.2.5 (λ x. x) q);
+      no_memory = λ q. absurd (ending_is_no s status.NoMemory h.2.5 (λ x. x) q);
     }
-scenario_refused words before after TooLong o bytes h fit ni nm told =
-    let past : limit < length bytes = omega (arith, taken_within before.left after.left bytes h.1.bytes told h.1.taken, h.1.past) in
-    record {
-      only = λ e. inl past;
-      too_long = λ long. refl;
-      refused = λ err. refl;
-      one_past = λ e long. rest_left before.left after.left bytes h.1.bytes (limit + 1) told h.1.taken h.1.past;
-      nothing_left = λ e few. absurd (omega arith);
+    line_of_order o (Refused r) h t = record {
+      words = no_words o;
+      input = λ p reading bytes is reads_it told q.
+          let same : o ≡ p = same_order o p is in
+          let reads_this : reads o ≡ Some reading = rw (sym same) at reads_it in
+          let whole = read_all (reads o) reading h.0 reads_this h.1 in
+          let all = taken_all (e.left e.input_before) (e.left e.input_after) bytes h.0 told whole.taken whole.at_end in
+          let fits : length bytes ≤ limit reading = rw all.0 at whole.fits in
+          let few : nat_lt (limit reading) (length bytes) ≡ false = grind (arith, nat_tests) in
+          let err : answer o bytes ≡ Err r = rw all.0 at h.2.0 in
+          let err_of : answer p bytes ≡ Err r = rw same at err in
+          rw (few, err_of) t;
+      input_fault = λ q. cc;
+      output_fault = λ q. cc;
+      no_memory = λ q. cc;
     }
-scenario_refused words before after InputFault o bytes h fit ni nm told = absurd (ni refl)
-scenario_refused words before after NoMemory o bytes h fit ni nm told = absurd (nm refl)
-
-pub output_fault : (words : List (List ℕ)) (before after : Outside) (v : Verdict) (bytes written : List ℕ) → Judged words before after v
-    → status_for v ≡ status.OutputFault → before.left ≡ Some bytes → before.written ≡ Some written → OutputFaultByCause words before after bytes written
-output_fault words before after (Ended st) bytes written h e told told2 = absurd (ending_is_no st status.OutputFault h.3 (λ x. x) e)
-output_fault words before after OutputFault bytes written h e told told2 =
-    let a = accepted before after h.0.scenario bytes h.0.input told in
-    record {
-      rose = h.2;
-      order = h.0.order;
-      words_fit = h.0.words_fit;
-      nothing_left = a.2;
-      scenario = h.0.scenario;
-      read = a.0;
-      count = h.1.0;
-      output = added before.written after.written written _ told2 h.1.1;
+    line_of_order o (TooLong r) h t = record {
+      words = no_words o;
+      input = λ p reading bytes is reads_it told q.
+          let same : o ≡ p = same_order o p is in
+          let reads_this : reads o ≡ Some reading = rw (sym same) at reads_it in
+          let same_reading : r ≡ reading = let both : Some r ≡ Some reading = sym h.0 ∙ reads_this in cc in
+          let k = h.1.taken in
+          let count : length k.taken ≡ limit reading + 1 = rw same_reading at k.exactly in
+          let past : limit reading < length bytes =
+          omega (arith, taken_within (e.left e.input_before) (e.left e.input_after) bytes k.taken told k.consumes, count) in
+          let long : nat_lt (limit reading) (length bytes) ≡ true = grind (arith, nat_tests) in
+          let line : ToldOf (TooLong reading) = rw same_reading at t in
+          rw long line;
+      input_fault = λ q. cc;
+      output_fault = λ q. cc;
+      no_memory = λ q. cc;
     }
-output_fault words before after (Words r) bytes written h e told told2 = cc
-output_fault words before after (Scenario r) bytes written h e told told2 = cc
-output_fault words before after TooLong bytes written h e told told2 = cc
-output_fault words before after InputFault bytes written h e told told2 = cc
-output_fault words before after NoMemory bytes written h e told told2 = cc
+    line_of_order o InputFault h t = record {
+      words = no_words o;
+      input = λ p reading bytes is r told q. cc;
+      input_fault = λ q. t;
+      output_fault = λ q. cc;
+      no_memory = λ q. cc;
+    }
+    line_of_order o (OutputFault rounds) h t = record {
+      words = no_words o;
+      input = λ p reading bytes is r told q. cc;
+      input_fault = λ q. cc;
+      output_fault = λ q. t;
+      no_memory = λ q. cc;
+    }
+    line_of_order o NoMemory h t = record {
+      words = no_words o;
+      input = λ p reading bytes is r told q. cc;
+      input_fault = λ q. cc;
+      output_fault = λ q. cc;
+      no_memory = λ q. t;
+    }
+    line_of_order o (Words r) h t = absurd h
 
-pub output_fault_rose : (words : List (List ℕ)) (before after : Outside) (v : Verdict) → Judged words before after v
-    → status_for v ≡ status.OutputFault → Rose before.output_faults after.output_faults
-output_fault_rose words before after (Ended st) h e = absurd (ending_is_no st status.OutputFault h.3 (λ x. x) e)
-output_fault_rose words before after OutputFault h e = h.2
-output_fault_rose words before after (Words r) h e = cc
-output_fault_rose words before after (Scenario r) h e = cc
-output_fault_rose words before after TooLong h e = cc
-output_fault_rose words before after InputFault h e = cc
-output_fault_rose words before after NoMemory h e = cc
+    -- the line of refused words
+    line_of_words : (r : WordsRefusal) (v : Verdict) → v ≡ Words r → ToldOf v → TriesErrorLine (Err r) (e.left e.input_before) (st v) TriesLine
+    line_of_words r v is t =
+        let told : TriesLine (words_line r) = subst (λ (v : Verdict). ToldOf v) is t in
+        let refused = words_status v r is in
+        record {
+          words = λ q same. let this : r ≡ q = let both : Err r ≡ Err q = same in cc in subst (λ (q : WordsRefusal). TriesLine (words_line q)) this told;
+          input = λ p reading bytes is_order. let clash : Err r ≡ Ok p = is_order in cc;
+          input_fault = λ q. let clash : status.WordsRefused ≡ status.InputFault = sym refused ∙ q in cc;
+          output_fault = λ q. let clash : status.WordsRefused ≡ status.OutputFault = sym refused ∙ q in cc;
+          no_memory = λ q. let clash : status.WordsRefused ≡ status.NoMemory = sym refused ∙ q in cc;
+        }
 
--- ---- the error sink
+    pub error_line : (order : Result Order WordsRefusal) (v : Verdict) → Judged order e v → ToldOf v → TriesErrorLine order (e.left e.input_before) (st v) TriesLine
+    error_line (Ok o) v h t = line_of_order o v h t
+    error_line (Err r) v h t = line_of_words r v h.0 t
 
-module _ {E : Type 0} (written : E → Option (List ℕ)) (faults : E → ℕ) (old new : E) where
-  abbrev TriesLine : List ℕ → Type 0
-  TriesLine line = Tries (written old) (written new) (faults old) (faults new) line
-
-  accepts : (words : List (List ℕ)) (o : Order) → order_of words ≡ Ok o → (r : WordsRefusal) → order_of words ≡ Err r → TriesLine (words_line r)
-  accepts words o fit r e = let clash : Err r ≡ Ok o = sym e ∙ fit in cc
-
-  pub error_line : (words : List (List ℕ)) (before after : Outside) (v : Verdict) → Judged words before after v → Told written faults old new (line_for v)
-      → TriesErrorLine (order_of words) before.left (status_for v) TriesLine
-  error_line words before after (Ended st) h t = record {
-    words = accepts words h.0.order h.0.words_fit;
-    scenario = λ bytes told e. absurd (ending_is_no st status.ScenarioRefused h.3 (λ x. x) e);
-    input_fault = λ e. absurd (ending_is_no st status.InputFault h.3 (λ x. x) e);
-    output_fault = λ e. absurd (ending_is_no st status.OutputFault h.3 (λ x. x) e);
-    no_memory = λ e. absurd (ending_is_no st status.NoMemory h.3 (λ x. x) e);
-  }
-  error_line words before after (Words r) h t = record {
-    words = λ q e. let same : r ≡ q = let both : Err r ≡ Err q = sym h.0 ∙ e in cc in subst (λ q. TriesLine (words_line q)) same t;
-    scenario = λ bytes told e. cc;
-    input_fault = λ e. cc;
-    output_fault = λ e. cc;
-    no_memory = λ e. cc;
-  }
-  error_line words before after (Scenario r) h t = record {
-    words = accepts words h.0.0 h.0.1;
-    scenario = λ bytes told e.
-        let all = taken_all before.left after.left bytes h.1.bytes told h.1.taken h.1.at_end in
-        let fits : length bytes ≤ limit = rw all.0 at h.1.fits in
-        let few : nat_lt limit (length bytes) ≡ false = grind (arith, nat_tests) in
-        let is : scenario_of bytes ≡ Err r = rw all.0 at h.1.read in
-        rw (few, is) t;
-    input_fault = λ e. cc;
-    output_fault = λ e. cc;
-    no_memory = λ e. cc;
-  }
-  error_line words before after TooLong h t = record {
-    words = accepts words h.0.0 h.0.1;
-    scenario = λ bytes told e.
-        let past : limit < length bytes = omega (arith, taken_within before.left after.left bytes h.1.bytes told h.1.taken, h.1.past) in
-        let long : nat_lt limit (length bytes) ≡ true = grind (arith, nat_tests) in
-        rw long t;
-    input_fault = λ e. cc;
-    output_fault = λ e. cc;
-    no_memory = λ e. cc;
-  }
-  error_line words before after InputFault h t = record {
-    words = accepts words h.0.0 h.0.1;
-    scenario = λ bytes told e. cc;
-    input_fault = λ e. t;
-    output_fault = λ e. cc;
-    no_memory = λ e. cc;
-  }
-  error_line words before after OutputFault h t = record {
-    words = accepts words h.0.order h.0.words_fit;
-    scenario = λ bytes told e. cc;
-    input_fault = λ e. cc;
-    output_fault = λ e. t;
-    no_memory = λ e. cc;
-  }
-  error_line words before after NoMemory h t = record {
-    words = accepts words h.0.0 h.0.1;
-    scenario = λ bytes told e. cc;
-    input_fault = λ e. cc;
-    output_fault = λ e. cc;
-    no_memory = λ e. t;
-  }
-
-  pub untouched : (v : Verdict) → Told written faults old new (line_for v) → IsEnding (status_for v) → new ≡ old
-  untouched (Ended st) t e = t
-  untouched (Words r) t e = absurd e
-  untouched (Scenario r) t e = absurd e
-  untouched TooLong t e = absurd e
-  untouched InputFault t e = absurd e
-  untouched OutputFault t e = absurd e
-  untouched NoMemory t e = absurd e
+    pub untouched : (v : Verdict) → ToldOf v → IsEnding (st v) → new ≡ old
+    untouched (Ended s rounds) t q = t
+    untouched (OutputFault rounds) t q = absurd q
+    untouched (Refused r) t q = absurd q
+    untouched (TooLong r) t q = absurd q
+    untouched InputFault t q = absurd q
+    untouched NoMemory t q = absurd q
+    untouched (Words r) t q = absurd q

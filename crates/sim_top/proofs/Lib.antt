@@ -1,6 +1,7 @@
 pub mod Clauses
-pub mod Judging
 pub mod Numbers
 pub mod Pairs
 pub mod Places
+pub mod Rounds
+pub mod Taking
 pub mod Trying

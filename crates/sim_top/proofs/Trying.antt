@@ -1,16 +1,11 @@
 -- Lines that are written piece by piece.
-use Rattle.std.proofs.Common.{ℕ, ◌≤◌, ◌+◌, List, [], ◌++◌, take, Option, Some, None, Result, Ok, Err, length, refl, sym, inl, inr, arith, append-nil, length-append}
+use Rattle.std.proofs.Common.{ℕ, ◌+◌, List, [], ◌++◌, take, Option, Some, None, Result, Ok, Err, length, refl, sym, ◌∙◌, inl, inr, arith, append-nil, length-append}
 use Rattle.std.proofs.Math.Seq.{take-append-add, take-length}
 use Rattle.std.proofs.lemmas.List.{take-append-le}
 use Rattle.std.specs.Io.KnownBytes.{Appends}
-use Rattle.sim_base.specs.Outside.{Rose}
 use Rattle.std.proofs.KnownBytes.{Appends-trans}
 use Rattle.sim_top.specs.Lines.{Tries}
 use Rattle.sim_top.specs.Pieces.{Broke, Writes, Wrote}
-
--- a count that rose later rose
-rose_from : (before mid after : ℕ) → before ≤ mid → Rose mid after → Rose before after
-rose_from before mid after later rose = omega arith
 
 module _ {E : Type 0} (written : E → Option (List ℕ)) (faults : E → ℕ) where
   abbrev Done : E → E → List ℕ → Type 0
@@ -20,7 +15,7 @@ module _ {E : Type 0} (written : E → Option (List ℕ)) (faults : E → ℕ) w
   Cut old new bytes = Broke (written old) (written new) (faults old) (faults new) bytes
 
   pub wrote_nothing : (old : E) → Done old old []
-  wrote_nothing old = record { wrote = same (written old); later = omega arith } where
+  wrote_nothing old = record { wrote = same (written old); sound = refl } where
     same : (bytes : Option (List ℕ)) → Appends bytes bytes []
     same None = tt
     same (Some xs) = sym (append-nil xs)
@@ -28,7 +23,7 @@ module _ {E : Type 0} (written : E → Option (List ℕ)) (faults : E → ℕ) w
   pub wrote_more : (old mid new : E) (xs ys : List ℕ) → Done old mid xs → Done mid new ys → Done old new (xs ++ ys)
   wrote_more old mid new xs ys first second = record {
     wrote = Appends-trans (written old) (written mid) (written new) xs ys first.wrote second.wrote;
-    later = omega (arith, first.later, second.later);
+    sound = second.sound ∙ first.sound;
   }
 
   -- the first piece broke
@@ -37,7 +32,7 @@ module _ {E : Type 0} (written : E → Option (List ℕ)) (faults : E → ℕ) w
     count = broke.count;
     within = omega (arith, broke.within, length-append xs ys);
     wrote = rw (take-append-le broke.count xs ys broke.within) broke.wrote;
-    rose = broke.rose;
+    fails = broke.fails;
   }
 
   -- a later piece broke
@@ -46,7 +41,7 @@ module _ {E : Type 0} (written : E → Option (List ℕ)) (faults : E → ℕ) w
     count = length xs + broke.count;
     within = omega (arith, broke.within, length-append xs ys);
     wrote = rw (take-append-add xs ys broke.count) (Appends-trans (written old) (written mid) (written new) xs (take broke.count ys) first.wrote broke.wrote);
-    rose = rose_from (faults old) (faults mid) (faults new) first.later broke.rose;
+    fails = rw first.sound at broke.fails;
   }
 
   -- the pieces that follow are written, or one of them breaks
@@ -58,5 +53,5 @@ module _ {E : Type 0} (written : E → Option (List ℕ)) (faults : E → ℕ) w
   -- a line of which all pieces were written, or one broke, was tried
   pub tried : {X : Type 0} (old new : E) (r : Result (Unit {0}) X) (line : List ℕ)
       → Writes written faults old new r line → Tries (written old) (written new) (faults old) (faults new) line
-  tried old new (Ok u) line w = record { count = length line; wrote = rw take-length w.wrote; whole = inl refl }
-  tried old new (Err e) line w = record { count = w.count; wrote = w.wrote; whole = inr w.rose }
+  tried old new (Ok u) line w = record { count = length line; wrote = rw take-length w.wrote; whole = inl (refl, w.sound) }
+  tried old new (Err e) line w = record { count = w.count; wrote = w.wrote; whole = inr w.fails }

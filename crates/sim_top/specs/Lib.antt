@@ -1,8 +1,9 @@
-pub mod Answer
 pub mod Chosen
 pub mod Clauses
+pub mod Commands
 pub mod Lines
 pub mod Pieces
 pub mod Statuses
+pub mod Tasks
 pub mod Verdicts
 pub mod Words

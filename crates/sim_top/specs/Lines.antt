@@ -2,14 +2,20 @@
 use Rattle.std.specs.Prelude.{◌≡◌, ◌⊎◌, ℕ, ◌==◌, nat_le, ◌&&◌, if◌then◌else◌, List, [], ◌∷◌, ◌++◌, map, codes, length, take, Option, Some, None}
 use Rattle.std.specs.Fmt.{decimal, signed_decimal}
 use Rattle.std.specs.Io.KnownBytes.{Appends}
-use Rattle.sim_base.specs.Outside.{Rose}
+use Rattle.sim_base.specs.Outside.{one_more}
 use Rattle.sim_base.specs.declared.status.Status.{Status}
 use Rattle.sim_base.specs.declared.status.Status.TheVariants as status
 use Rattle.scenario.specs.declared.refusal.Place.{Place}
 use Rattle.scenario.specs.declared.refusal.Refusal.{Refusal}
 use Rattle.scenario.specs.declared.refusal.Refusal.TheVariants.{NotJson, Missing, WrongType, OutOfRange, BadName, Twice, UnknownKind, UnknownField, UnknownActor, BadRule, TooManyActors}
+use Rattle.quiescence.specs.Rounds.{RoundSums, no_rounds}
+use Rattle.sim_top.specs.declared.reading.InputRefusal.{InputRefusal}
+use Rattle.sim_top.specs.declared.reading.InputRefusal.TheVariants as refusal
+use Rattle.sim_top.specs.declared.reading.Reading.{Reading}
+use Rattle.sim_top.specs.declared.reading.Reading.TheVariants as reading
+use Rattle.sim_top.specs.declared.top.Ran.{Ran}
 use Rattle.sim_top.specs.declared.verdict.Verdict.{Verdict}
-use Rattle.sim_top.specs.declared.verdict.Verdict.TheVariants.{Ended, Words, Scenario, TooLong, InputFault, OutputFault, NoMemory}
+use Rattle.sim_top.specs.declared.verdict.Verdict.TheVariants.{Ended, Words, Refused, TooLong, InputFault, OutputFault, NoMemory}
 use Rattle.sim_top.specs.declared.words.WordsCause.{WordsCause}
 use Rattle.sim_top.specs.declared.words.WordsCause.TheVariants as cause
 use Rattle.sim_top.specs.declared.words.WordsRefusal.{WordsRefusal}
@@ -63,32 +69,44 @@ refusal_text (TooManyActors n) = codes "too many actors " ++ decimal n
 abbrev pub scenario_line : Refusal → List ℕ
 scenario_line r = codes "scenario: " ++ refusal_text r ++ codes "\n"
 
+-- ---- refused input
+
+abbrev pub refusal_line : InputRefusal → List ℕ
+refusal_line (refusal.Scenario r) = scenario_line r
+
+abbrev pub too_long_line : Reading → List ℕ
+too_long_line reading.Scenario = codes "scenario: too long\n"
+
 -- ---- verdicts
 
-abbrev pub status_for : Verdict → Status
-status_for (Ended s) = s
-status_for (Words r) = status.WordsRefused
-status_for (Scenario r) = status.ScenarioRefused
-status_for TooLong = status.ScenarioRefused
-status_for InputFault = status.InputFault
-status_for OutputFault = status.OutputFault
-status_for NoMemory = status.NoMemory
+abbrev pub ran : Status → RoundSums → Ran
+ran status rounds = record { status = status; rounds = rounds }
+
+-- what a call answers that came to this
+abbrev pub ran_for : Verdict → Ran
+ran_for (Ended s rounds) = ran s rounds
+ran_for (Words r) = ran status.WordsRefused no_rounds
+ran_for (Refused r) = ran status.ScenarioRefused no_rounds
+ran_for (TooLong reading) = ran status.ScenarioRefused no_rounds
+ran_for InputFault = ran status.InputFault no_rounds
+ran_for (OutputFault rounds) = ran status.OutputFault rounds
+ran_for NoMemory = ran status.NoMemory no_rounds
 
 -- a command that ended has no line
 abbrev pub line_for : Verdict → Option (List ℕ)
-line_for (Ended s) = None
+line_for (Ended s rounds) = None
 line_for (Words r) = Some (words_line r)
-line_for (Scenario r) = Some (scenario_line r)
-line_for TooLong = Some (codes "scenario: too long\n")
+line_for (Refused r) = Some (refusal_line r)
+line_for (TooLong reading) = Some (too_long_line reading)
 line_for InputFault = Some (codes "input fault\n")
-line_for OutputFault = Some (codes "output fault\n")
+line_for (OutputFault rounds) = Some (codes "output fault\n")
 line_for NoMemory = Some (codes "no memory\n")
 
--- a prefix of the line was written, and all of it unless the count of faults rose
+-- a front of the line was written: all of it, and the sink didn't fail, or it failed
 pub record Tries (before after : Option (List ℕ)) (faults_before faults_after : ℕ) (line : List ℕ) : Type 0 where
   pub count : ℕ
   pub wrote : Appends before after (take count line)
-  pub whole : (count ≡ length line) ⊎ Rose faults_before faults_after
+  pub whole : ((count ≡ length line) × (faults_after ≡ faults_before)) ⊎ (faults_after ≡ one_more faults_before)
 
 -- where there is a line it is tried, else the sink is as it was
 abbrev pub Told : {E : Type 0} → (E → Option (List ℕ)) → (E → ℕ) → E → E → Option (List ℕ) → Type 0

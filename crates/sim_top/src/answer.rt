@@ -1,70 +1,74 @@
 ghost use Rattle.std.specs.Prelude.{◌≡◌, IfOk};
-ghost use Rattle.sim_base.specs.Endings.{status_of_ending};
-ghost use Rattle.sim_top.specs.Answer.{answer};
 ghost use Rattle.sim_top.specs.Statuses.{IsEnding};
-ghost use Rattle.sim_top.specs.declared.words.Command.TheVariants as command;
+ghost use Rattle.sim_top.specs.Tasks.{Gives, answer, reads};
+ghost use Rattle.sim_top.specs.Words.{IsOffered};
 
-use crate::words::Command;
-use result_store::text;
-use scenario::Scenario;
-use sim_base::{Ending, Items, Memory, Status};
-use sim_model::plain_run;
+use crate::commands::{check, generated, help, plan, run, upgrade, version};
+use crate::reading::{InputRefusal, Reading};
+use crate::words::{Command, Order};
+use quiescence::Rounds;
+use sim_base::{Items, Memory, Status};
 use std::alloc::Global;
 
-/// What a command writes and answers.
+/// What an order is answered with.
 #[derive(Drop)]
 pub struct Answer {
     /// All that is written.
     pub text: Items<u8>,
     /// Done, or what the ending of a run gives.
     pub status: Status,
+    /// The sums over the rounds that were closed.
+    pub rounds: Rounds,
 }
 
-fn status(ending: Ending) -> Status
-    ensures value { result ≡ status_of_ending ending }
-    ensures ending { IsEnding result }
+/// Why an order has no answer.
+#[derive(Drop)]
+pub(crate) enum AnswerFault {
+    /// What was read is refused.
+    Refused(InputRefusal),
+    /// A growth was refused; nothing is known of what was read.
+    Memory,
+}
+
+impl From<Memory> for AnswerFault {
+    ghost use Rattle.std.specs.Prelude.{◌≡◌};
+    ghost use Rattle.sim_top.specs.declared.answer.AnswerFault.TheVariants as fault;
+
+    ghost from_gives = { λ _ e. e ≡ fault.Memory };
+
+    fn from(_: Memory) -> AnswerFault {
+        AnswerFault::Memory
+    }
+}
+
+/// What an order reads; None is nothing.
+pub(crate) fn reads(order: &Order) -> Option<Reading>
+    ensures { result ≡ reads order.now }
 {
-    Status::of_ending(ending)
+    match order.command {
+        Command::Run | Command::Live => Some(Reading::Scenario),
+        Command::Check | Command::Plan | Command::Upgrade => Some(Reading::Scenario),
+        Command::Gen(_) | Command::Help | Command::Version => None,
+    }
 }
 
-/// The text of the run, and the status of its ending.
-#[tactic(auto, unfolding(crate::specs::Answer::answer))]
-fn run(alloc: Global, scenario: &Scenario) -> Result<Answer, Memory>
-    ensures value { IfOk result (λ a. a ≡ answer command.Run scenario.now) }
-    ensures ending { IfOk result (λ a. IsEnding a.status) }
-{
-    let results = plain_run(alloc, &scenario.setup)?;
-    Ok(Answer {
-        text: text(alloc, &results, &scenario.rules)?,
-        status: status(results.ending),
-    })
-}
-
-/// The canonical text and a line end.
-#[tactic(auto, unfolding(crate::specs::Answer::answer))]
-fn check(alloc: Global, scenario: &Scenario) -> Result<Answer, Memory>
-    ensures value { IfOk result (λ a. a ≡ answer command.Check scenario.now) }
-    ensures ending { IfOk result (λ a. IsEnding a.status) }
-{
-    let mut text = scenario.print(alloc)?;
-    text.add(b'\n')?;
-    Ok(Answer {
-        text,
-        status: Status::Done,
-    })
-}
-
-/// The answer of a command for a scenario.
+/// The answer of an order to what it read.
 pub(crate) fn answer_of(
     alloc: Global,
-    command: Command,
-    scenario: &Scenario,
-) -> Result<Answer, Memory>
-    ensures value { IfOk result (λ a. a ≡ answer command scenario.now) }
+    order: &Order,
+    bytes: Items<u8>,
+) -> Result<Answer, AnswerFault>
+    requires { IsOffered order.now.command }
+    ensures value { Gives result (answer order.now bytes) }
     ensures ending { IfOk result (λ a. IsEnding a.status) }
 {
-    match command {
-        Command::Run => run(alloc, scenario),
-        Command::Check => check(alloc, scenario),
+    match order.command {
+        Command::Run | Command::Live => run::reply(alloc, bytes),
+        Command::Check => check::reply(alloc, bytes),
+        Command::Plan => plan::reply(alloc, bytes, &order.plan),
+        Command::Gen(groups) => Ok(generated::reply(alloc, groups)?),
+        Command::Upgrade => upgrade::reply(alloc, bytes),
+        Command::Help => Ok(help::reply(alloc)?),
+        Command::Version => Ok(version::reply(alloc)?),
     }
 }

@@ -1,9 +1,10 @@
 //! The lines on the error sink. They are written piece by piece and take no memory.
 ghost use Rattle.std.specs.Prelude.{◌≡◌, ◌++◌, codes, map};
 ghost use Rattle.std.specs.Fmt.{decimal, signed_decimal};
-ghost use Rattle.sim_top.specs.Lines.{actor_text, cause_text, field_text, place_text, refusal_text, scenario_line, shown, words_line};
+ghost use Rattle.sim_top.specs.Lines.{actor_text, cause_text, field_text, place_text, refusal_text, refusal_line, scenario_line, shown, too_long_line, words_line};
 ghost use Rattle.sim_top.specs.Pieces.{Writes};
 
+use crate::reading::{InputRefusal, Reading};
 use crate::words::{WordsCause, WordsRefusal};
 use itoa::Buffer;
 use scenario::{FieldText, Place, Refusal};
@@ -128,12 +129,30 @@ fn write_refusal<E: Sink>(err: &mut E, refusal: &Refusal) -> Result<(), Broken>
 }
 
 /// The line of a refused scenario.
-pub(crate) fn write_scenario_line<E: Sink>(err: &mut E, refusal: &Refusal) -> Result<(), Broken>
+fn write_scenario_line<E: Sink>(err: &mut E, refusal: &Refusal) -> Result<(), Broken>
     ensures { Writes E.written E.faults err.old err.new result (scenario_line refusal.now) }
 {
     write(err, b"scenario: ")?;
     write_refusal(err, refusal)?;
     write(err, b"\n")
+}
+
+/// The line of a refusal of what was read.
+pub(crate) fn write_refusal_line<E: Sink>(err: &mut E, refusal: &InputRefusal) -> Result<(), Broken>
+    ensures { Writes E.written E.faults err.old err.new result (refusal_line refusal.now) }
+{
+    match refusal {
+        InputRefusal::Scenario(refusal) => write_scenario_line(err, refusal),
+    }
+}
+
+/// The line of an input with more bytes than may be read.
+pub(crate) fn write_too_long_line<E: Sink>(err: &mut E, reading: Reading) -> Result<(), Broken>
+    ensures { Writes E.written E.faults err.old err.new result (too_long_line reading) }
+{
+    match reading {
+        Reading::Scenario => write(err, b"scenario: too long\n"),
+    }
 }
 
 fn cause_text(cause: WordsCause) -> &'static [u8]

@@ -1,9 +1,10 @@
 ghost use Rattle.std.specs.Prelude.{◌≡◌, ◌≤◌, IfOk};
 ghost use Rattle.std.specs.Char.{is_ascii_digit};
 ghost use Rattle.std.specs.List.{list_all};
-ghost use Rattle.sim_top.specs.Chosen.{nothing_chosen, plan_of};
-ghost use Rattle.sim_top.specs.Words.{choose, is_chosen, is_number, new_option, number_at, number_of, option_of, policy_of};
+ghost use Rattle.sim_top.specs.Chosen.{nothing_chosen, plan_of, readers_of};
+ghost use Rattle.sim_top.specs.Words.{choose, is_chosen, is_number, new_setting, number_at, number_of, policy_of, setting_of, takes};
 
+use crate::forms::{Bounds, Options};
 use crate::words::{WordsCause, WordsRefusal, refusal};
 use placement::{Plan, Policy};
 use std::marker::Model;
@@ -11,13 +12,34 @@ use std::marker::Model;
 /// The most digits of a number.
 const MOST_DIGITS: usize = 10;
 
-/// An option of `run`.
+const WORKERS: Bounds = Bounds {
+    least: 1,
+    greatest: 64,
+};
+
+const MANAGERS: Bounds = Bounds {
+    least: 1,
+    greatest: 16,
+};
+
+const FANOUT: Bounds = Bounds {
+    least: 2,
+    greatest: 8,
+};
+
+const READERS: Bounds = Bounds {
+    least: 1,
+    greatest: 8,
+};
+
+/// What an option sets.
 #[derive(Clone, Copy)]
-pub(crate) enum PlanOption {
+pub(crate) enum Setting {
     Workers,
     Managers,
     Fanout,
     Policy,
+    Readers,
 }
 
 /// The options that stood so far, each in its range.
@@ -27,19 +49,19 @@ pub(crate) struct Chosen {
     managers: Option<u32>,
     fanout: Option<u32>,
     policy: Option<Policy>,
+    readers: Option<u32>,
 }
 
 impl Model for Chosen {
-    ghost use Rattle.placement.specs.Plans.{IsPlan};
-    ghost use Rattle.sim_top.specs.Chosen.{ChosenParts, plan_of};
+    ghost use Rattle.sim_top.specs.Chosen.{ChosenParts, IsChosen};
 
     ghost Value = { ChosenParts };
 
-    ghost view = { λ c. record { workers = c.workers; managers = c.managers; fanout = c.fanout; policy = c.policy } };
+    ghost view = { λ c. record { workers = c.workers; managers = c.managers; fanout = c.fanout; policy = c.policy; readers = c.readers } };
 
-    ghost invariant = { λ c. IsPlan (plan_of (record { workers = c.workers; managers = c.managers; fanout = c.fanout; policy = c.policy })) };
+    ghost invariant = { λ c. IsChosen (record { workers = c.workers; managers = c.managers; fanout = c.fanout; policy = c.policy; readers = c.readers }) };
 
-    ghost inverse = { λ c. record { workers = c.workers; managers = c.managers; fanout = c.fanout; policy = c.policy } };
+    ghost inverse = { λ c. record { workers = c.workers; managers = c.managers; fanout = c.fanout; policy = c.policy; readers = c.readers } };
 }
 
 fn are_digits(word: &[u8]) -> bool
@@ -68,17 +90,16 @@ fn number_of(word: &[u8]) -> Option<u64>
     }
 }
 
-/// The value of an option, from `low` to `high`.
+/// A number in its range.
 #[tactic(auto, unfolding(crate::specs::Words::number_at))]
-fn number_at(place: u64, low: u64, high: u64, word: &[u8]) -> Result<u32, WordsRefusal>
-    requires { high ≤ 64 }
-    ensures value { result ≡ number_at place low high word.now }
-    ensures range { IfOk result (λ n. (low ≤ n) × (n ≤ high)) }
+pub(crate) fn number_at(place: u64, bounds: Bounds, word: &[u8]) -> Result<u32, WordsRefusal>
+    ensures value { result ≡ number_at place bounds word.now }
+    ensures range { IfOk result (λ n. (bounds.least ≤ n) × (n ≤ bounds.greatest)) }
 {
     let Some(value) = number_of(word) else {
         return Err(refusal(place, WordsCause::BadNumber));
     };
-    if value < low || value > high {
+    if value < u64::from(bounds.least) || value > u64::from(bounds.greatest) {
         return Err(WordsRefusal {
             place,
             cause: WordsCause::OutOfRange,
@@ -103,39 +124,56 @@ fn policy_of(word: &[u8]) -> Option<Policy>
     }
 }
 
-#[tactic(auto, unfolding(crate::specs::Words::option_of))]
-fn option_of(word: &[u8]) -> Option<PlanOption>
-    ensures { result ≡ option_of word.now }
+#[tactic(auto, unfolding(crate::specs::Words::setting_of))]
+fn setting_of(word: &[u8]) -> Option<Setting>
+    ensures { result ≡ setting_of word.now }
 {
     if word == b"--workers".as_slice() {
-        Some(PlanOption::Workers)
+        Some(Setting::Workers)
     } else if word == b"--managers".as_slice() {
-        Some(PlanOption::Managers)
+        Some(Setting::Managers)
     } else if word == b"--fanout".as_slice() {
-        Some(PlanOption::Fanout)
+        Some(Setting::Fanout)
     } else if word == b"--policy".as_slice() {
-        Some(PlanOption::Policy)
+        Some(Setting::Policy)
+    } else if word == b"--readers".as_slice() {
+        Some(Setting::Readers)
     } else {
         None
     }
 }
 
-/// The option that a word is, if it didn't stand before.
-#[tactic(auto, unfolding(crate::specs::Words::new_option))]
-pub(crate) fn new_option(
+impl Options {
+    fn takes(self, setting: Setting) -> bool
+        ensures { result ≡ takes self setting }
+    {
+        match (self, setting) {
+            (Options::Nothing, _) | (Options::OfPlan, Setting::Readers) => false,
+            (Options::OfPlan | Options::OfPlanAndReaders, _) => true,
+        }
+    }
+}
+
+/// The option that a word is, if the command takes it and it didn't stand before.
+#[tactic(auto, unfolding(crate::specs::Words::new_setting))]
+pub(crate) fn new_setting(
+    options: Options,
     place: u64,
     word: &[u8],
     chosen: &Chosen,
-) -> Result<PlanOption, WordsRefusal>
-    ensures { result ≡ new_option place word.now chosen.now }
+) -> Result<Setting, WordsRefusal>
+    ensures { result ≡ new_setting options place word.now chosen.now }
 {
-    let Some(option) = option_of(word) else {
+    let Some(setting) = setting_of(word) else {
         return Err(refusal(place, WordsCause::UnknownOption));
     };
-    if chosen.has(option) {
+    if !options.takes(setting) {
+        return Err(refusal(place, WordsCause::UnknownOption));
+    }
+    if chosen.has(setting) {
         return Err(refusal(place, WordsCause::Repeated));
     }
-    Ok(option)
+    Ok(setting)
 }
 
 impl Chosen {
@@ -147,17 +185,19 @@ impl Chosen {
             managers: None,
             fanout: None,
             policy: None,
+            readers: None,
         }
     }
 
-    fn has(&self, option: PlanOption) -> bool
-        ensures { result ≡ is_chosen option self.now }
+    fn has(&self, setting: Setting) -> bool
+        ensures { result ≡ is_chosen setting self.now }
     {
-        match option {
-            PlanOption::Workers => self.workers.is_some(),
-            PlanOption::Managers => self.managers.is_some(),
-            PlanOption::Fanout => self.fanout.is_some(),
-            PlanOption::Policy => self.policy.is_some(),
+        match setting {
+            Setting::Workers => self.workers.is_some(),
+            Setting::Managers => self.managers.is_some(),
+            Setting::Fanout => self.fanout.is_some(),
+            Setting::Policy => self.policy.is_some(),
+            Setting::Readers => self.readers.is_some(),
         }
     }
 
@@ -165,26 +205,26 @@ impl Chosen {
     #[tactic(auto, unfolding(crate::specs::Words::choose))]
     pub(crate) fn with(
         self,
-        option: PlanOption,
+        setting: Setting,
         place: u64,
         word: &[u8],
     ) -> Result<Chosen, WordsRefusal>
-        ensures { result ≡ choose option place word.now self }
+        ensures { result ≡ choose setting place word.now self }
     {
-        Ok(match option {
-            PlanOption::Workers => Chosen {
-                workers: Some(number_at(place, 1, 64, word)?),
+        Ok(match setting {
+            Setting::Workers => Chosen {
+                workers: Some(number_at(place, WORKERS, word)?),
                 ..self
             },
-            PlanOption::Managers => Chosen {
-                managers: Some(number_at(place, 1, 16, word)?),
+            Setting::Managers => Chosen {
+                managers: Some(number_at(place, MANAGERS, word)?),
                 ..self
             },
-            PlanOption::Fanout => Chosen {
-                fanout: Some(number_at(place, 2, 8, word)?),
+            Setting::Fanout => Chosen {
+                fanout: Some(number_at(place, FANOUT, word)?),
                 ..self
             },
-            PlanOption::Policy => {
+            Setting::Policy => {
                 let Some(policy) = policy_of(word) else {
                     return Err(refusal(place, WordsCause::UnknownPolicy));
                 };
@@ -193,6 +233,10 @@ impl Chosen {
                     ..self
                 }
             }
+            Setting::Readers => Chosen {
+                readers: Some(number_at(place, READERS, word)?),
+                ..self
+            },
         })
     }
 
@@ -206,5 +250,12 @@ impl Chosen {
             fanout: self.fanout.unwrap_or(2),
             policy: self.policy.unwrap_or(Policy::RoundRobin),
         }
+    }
+
+    /// How many readers look on: 2 where it isn't chosen.
+    pub(crate) fn readers(&self) -> u32
+        ensures { result ≡ readers_of self.now }
+    {
+        self.readers.unwrap_or(2)
     }
 }

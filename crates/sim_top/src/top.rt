@@ -1,70 +1,91 @@
-ghost use Rattle.std.specs.Prelude.{◌≡◌, ◌≢◌, ◌≤◌, List, ℕ, Ok, Some, length};
-ghost use Rattle.sim_base.specs.Outside.{Rose};
-ghost use Rattle.scenario.specs.Format.{scenario_of};
-ghost use Rattle.scenario.specs.ScenarioParts.{ScenarioParts};
-ghost use Rattle.sim_top.specs.Clauses.{GivesAnswer, OutputFaultByCause, ScenarioRefusedExactly, TriesErrorLine, WordsRefusedFirst};
-ghost use Rattle.sim_top.specs.Lines.{Told, Tries, line_for, status_for};
+ghost use Rattle.std.specs.Prelude.{◌≡◌, ◌≢◌, List, ℕ, None, Ok, Some, false};
+ghost use Rattle.quiescence.specs.Rounds.{no_rounds};
+ghost use Rattle.sim_top.specs.Clauses.{FailsExactly, Fits, GivesAnswer, GivesFront, InputRefusedExactly, LeavesInput, TakesNoMore, TriesErrorLine, WordsRefusedFirst};
+ghost use Rattle.sim_top.specs.Lines.{Told, Tries, line_for, ran_for};
 ghost use Rattle.sim_top.specs.Statuses.{IsEnding, IsEndingOrMemory, WritesNothing};
-ghost use Rattle.sim_top.specs.Verdicts.{Judged, limit, outside};
-ghost use Rattle.sim_top.specs.Words.{order_of};
+ghost use Rattle.sim_top.specs.Tasks.{answer, reads};
+ghost use Rattle.sim_top.specs.Verdicts.{Answers, Comes, Judged, ends};
+ghost use Rattle.sim_top.specs.Words.{IsOffered, order_of};
+ghost use Rattle.sim_top.specs.declared.answer.Answer.{Answer};
+ghost use Rattle.sim_top.specs.declared.reading.Reading.{Reading};
 ghost use Rattle.sim_top.specs.declared.verdict.Verdict.{Verdict};
 ghost use Rattle.sim_top.specs.declared.words.Order.{Order};
 
 use crate::Verdict;
-use crate::answer::answer_of;
-use crate::verdict::{status, tell};
-use crate::words::read_words;
-use scenario::{Scenario, ScenarioFault};
+use crate::answer::{Answer, AnswerFault, answer_of, reads};
+use crate::words::{Order, read_words};
+use quiescence::Rounds;
 use sim_base::{Gate, Items, ReadFault, Sink, Source, Status, read_all, write_all_of};
 use std::alloc::Global;
 use std::thread::Threads;
 
-/// The most bytes of a scenario.
-const LIMIT: usize = 16_777_216;
+/// What a call of the top answers.
+#[derive(Drop)]
+pub struct Ran {
+    /// What the call came to; the program's exit code.
+    pub status: Status,
+    /// The sums over the rounds that were closed.
+    pub rounds: Rounds,
+}
 
+/// Writes the answer of an order that was given these bytes.
+fn write_answer<O: Sink>(alloc: Global, order: &Order, bytes: Items<u8>, out: &mut O) -> Verdict
+    requires { IsOffered order.now.command }
+    ensures { Answers order.now bytes O.written O.faults out.old out.new result }
+{
+    let Answer {
+        text,
+        status,
+        rounds,
+    } = match answer_of(alloc, order, bytes) {
+        Ok(answer) => answer,
+        Err(AnswerFault::Refused(refusal)) => return Verdict::Refused(refusal),
+        Err(AnswerFault::Memory) => return Verdict::NoMemory,
+    };
+    match write_all_of(out, text.as_slice()) {
+        Ok(()) => Verdict::Ended(status, rounds),
+        Err(_) => Verdict::OutputFault(rounds),
+    }
+}
+
+/// Reads what an order reads, and writes its answer.
+fn perform<S: Source, O: Sink>(alloc: Global, order: &Order, input: &mut S, out: &mut O) -> Verdict
+    requires { IsOffered order.now.command }
+    ensures { Comes order.now (ends S.left S.faults O.written O.faults input.old input.new out.old out.new) result }
+{
+    let Some(reading) = reads(order) else {
+        return write_answer(alloc, order, Items::new(alloc), out);
+    };
+    match read_all(alloc, input, reading.limit()) {
+        Ok(bytes) => write_answer(alloc, order, bytes, out),
+        Err(ReadFault::Fault) => Verdict::InputFault,
+        Err(ReadFault::TooLong) => Verdict::TooLong(reading),
+        Err(ReadFault::Memory) => Verdict::NoMemory,
+    }
+}
+
+/// Reads the words, and does what they ask for.
 fn judge<S: Source, O: Sink>(
     alloc: Global,
     words: &[Items<u8>],
     input: &mut S,
     out: &mut O,
 ) -> Verdict
-    ensures { Judged words.now
-        (outside (S.left input.old) (S.faults input.old) (O.written out.old) (O.faults out.old))
-        (outside (S.left input.new) (S.faults input.new) (O.written out.new) (O.faults out.new)) result }
+    ensures { Judged (order_of false words.now) (ends S.left S.faults O.written O.faults input.old input.new out.old out.new) result }
 {
-    let order = match read_words(words) {
-        Ok(order) => order,
-        Err(refusal) => return Verdict::Words(refusal),
-    };
-    let bytes = match read_all(alloc, input, LIMIT) {
-        Ok(bytes) => bytes,
-        Err(ReadFault::Fault) => return Verdict::InputFault,
-        Err(ReadFault::TooLong) => return Verdict::TooLong,
-        Err(ReadFault::Memory) => return Verdict::NoMemory,
-    };
-    let scenario = match Scenario::read(alloc, bytes.as_slice()) {
-        Ok(scenario) => scenario,
-        Err(ScenarioFault::Refused(refusal)) => return Verdict::Scenario(refusal),
-        Err(ScenarioFault::Memory) => return Verdict::NoMemory,
-    };
-    drop(bytes);
-    let Ok(answer) = answer_of(alloc, order.command, &scenario) else {
-        return Verdict::NoMemory;
-    };
-    match write_all_of(out, answer.text.as_slice()) {
-        Ok(()) => Verdict::Ended(answer.status),
-        Err(_) => Verdict::OutputFault,
+    match read_words(words, false) {
+        Ok(order) => perform(alloc, &order, input, out),
+        Err(refusal) => Verdict::Words(refusal),
     }
 }
 
-/// Does what the command words say, from the bytes of the input to the bytes of the output: `run`
-/// reads a scenario, runs it and writes the text of the run; `check` reads a scenario and writes its
-/// canonical text.
+/// Does what the command words say, from the bytes of the input to the bytes of the output, and answers
+/// how it went. Each command is told in `Command`; `live` isn't one of this call's.
 ///
 /// The status says what the call came to, and with each but those of an ending one line is tried on
-/// `err`. The order is fixed: the words, the reading, the scenario, the run, the writing; so nothing
-/// is written before the whole text is there. Want of memory may come at any point between the words
-/// and the writing. The runtime and the gate serve the workers to come.
+/// `err`. The order is fixed: the words, the reading, the answer, the writing; so nothing is written
+/// before the whole answer is there. Want of memory may come at any point between the words and the
+/// writing. The runtime and the gate serve the workers to come.
 pub fn simulate<R: Threads + Sync, S: Source, O: Sink, E: Sink, G: Gate>(
     _rt: &R,
     alloc: Global,
@@ -73,56 +94,57 @@ pub fn simulate<R: Threads + Sync, S: Source, O: Sink, E: Sink, G: Gate>(
     out: &mut O,
     err: &mut E,
     _gate: &G,
-) -> Status
-    // All in one: the call came to a verdict, which gives its status and its line.
-    ensures judged { (v : Verdict) × (result ≡ status_for v)
-        × Judged words.now
-        (outside (S.left input.old) (S.faults input.old) (O.written out.old) (O.faults out.old))
-        (outside (S.left input.new) (S.faults input.new) (O.written out.new) (O.faults out.new)) v
+) -> Ran
+    // All in one: the call came to a verdict, which gives its answer and its line.
+    ensures judged { (v : Verdict) × (result ≡ ran_for v)
+        × Judged (order_of false words.now) (ends S.left S.faults O.written O.faults input.old input.new out.old out.new) v
         × Told E.written E.faults err.old err.new (line_for v) }
 
-    // The words are refused exactly with status 3, and then the input and the output are untouched.
-    ensures words_refused_first { WordsRefusedFirst words.now
-        (outside (S.left input.old) (S.faults input.old) (O.written out.old) (O.faults out.old))
-        (outside (S.left input.new) (S.faults input.new) (O.written out.new) (O.faults out.new)) result }
+    // The words are refused exactly with status 3, and then the input and the output are as they were.
+    ensures words_refused_first { WordsRefusedFirst (order_of false words.now)
+        (ends S.left S.faults O.written O.faults input.old input.new out.old out.new) result.status }
 
-    // Status 1 comes only where the input failed in this call, and status 2 only where the output did.
-    ensures input_fault_by_its_cause { result ≡ Status.InputFault → Rose (S.faults input.old) (S.faults input.new) }
-    ensures output_fault_rose { result ≡ Status.OutputFault → Rose (O.faults out.old) (O.faults out.new) }
-    ensures output_fault_by_its_cause { (bytes written : List ℕ) → result ≡ Status.OutputFault
-        → S.left input.old ≡ Some bytes → O.written out.old ≡ Some written
-        → OutputFaultByCause words.now
-        (outside (S.left input.old) (S.faults input.old) (O.written out.old) (O.faults out.old))
-        (outside (S.left input.new) (S.faults input.new) (O.written out.new) (O.faults out.new)) bytes written }
+    // Status 1 comes exactly where the input failed in this call, and status 2 exactly where the output did.
+    ensures input_fault_by_its_cause { FailsExactly Status.InputFault result.status (S.faults input.old) (S.faults input.new) }
+    ensures output_fault_by_its_cause { FailsExactly Status.OutputFault result.status (O.faults out.old) (O.faults out.new) }
 
-    // Status 4 comes exactly where the input is too long or is no scenario.
-    ensures scenario_refused_exactly { (order : Order) (bytes : List ℕ) → order_of words.now ≡ Ok order
-        → result ≢ Status.InputFault → result ≢ Status.NoMemory → S.left input.old ≡ Some bytes
-        → ScenarioRefusedExactly
-        (outside (S.left input.old) (S.faults input.old) (O.written out.old) (O.faults out.old))
-        (outside (S.left input.new) (S.faults input.new) (O.written out.new) (O.faults out.new)) result bytes }
+    // Status 4 comes exactly where the input is too long or what was read is refused.
+    ensures scenario_refused_exactly { (o : Order) (reading : Reading) (bytes : List ℕ)
+        → order_of false words.now ≡ Ok o → reads o ≡ Some reading → S.left input.old ≡ Some bytes
+        → result.status ≢ Status.InputFault → result.status ≢ Status.NoMemory
+        → InputRefusedExactly o reading bytes (S.left input.new) result.status }
 
-    // An ending comes with the whole answer to the scenario of the whole input.
-    ensures the_answer { (bytes written : List ℕ) → IsEnding result
-        → S.left input.old ≡ Some bytes → O.written out.old ≡ Some written
-        → GivesAnswer words.now
-        (outside (S.left input.old) (S.faults input.old) (O.written out.old) (O.faults out.old))
-        (outside (S.left input.new) (S.faults input.new) (O.written out.new) (O.faults out.new)) result bytes written }
+    // A command that reads nothing leaves the input as it was, and statuses 1 and 4 don't come from it.
+    ensures input_untouched { (o : Order) → order_of false words.now ≡ Ok o → reads o ≡ None
+        → LeavesInput (ends S.left S.faults O.written O.faults input.old input.new out.old out.new) result.status }
 
-    // With statuses 1, 3, 4 and 7 nothing is written.
-    ensures nothing_written { WritesNothing result → O.written out.new ≡ O.written out.old }
+    // Where the input fails at most the limit is taken, and where memory is wanted at most one byte more.
+    ensures taken_within { (o : Order) (reading : Reading) → order_of false words.now ≡ Ok o → reads o ≡ Some reading
+        → TakesNoMore reading (S.left input.old) (S.left input.new) result.status }
+
+    // An ending comes with the whole answer to the whole input, status 2 with a front of it.
+    ensures the_answer { (bytes : List ℕ) → IsEnding result.status → S.left input.old ≡ Some bytes
+        → GivesAnswer (order_of false words.now) bytes (S.left input.new) (O.written out.old) (O.written out.new) result }
+    ensures front_of_the_answer { (bytes : List ℕ) → result.status ≡ Status.OutputFault → S.left input.old ≡ Some bytes
+        → GivesFront (order_of false words.now) bytes (S.left input.new) (O.written out.old) (O.written out.new) result }
+
+    // With statuses 1, 3, 4 and 7 the output is as it was.
+    ensures nothing_written { WritesNothing result.status → out.new ≡ out.old }
 
     // With each status but an ending's its line is tried on `err`; an ending leaves `err` as it was.
-    ensures error_line { TriesErrorLine (order_of words.now) (S.left input.old) result
+    ensures error_line { TriesErrorLine (order_of false words.now) (S.left input.old) result.status
         (Tries (E.written err.old) (E.written err.new) (E.faults err.old) (E.faults err.new)) }
-    ensures error_sink_untouched { IsEnding result → err.new ≡ err.old }
+    ensures error_sink_untouched { IsEnding result.status → err.new ≡ err.old }
 
-    // Where nothing failed and the scenario is accepted, only want of memory keeps an ending away.
-    ensures completeness { (order : Order) (bytes : List ℕ) (scenario : ScenarioParts) → order_of words.now ≡ Ok order
-        → (Rose (S.faults input.old) (S.faults input.new) → ⊥) → (Rose (O.faults out.old) (O.faults out.new) → ⊥)
-        → S.left input.old ≡ Some bytes → length bytes ≤ limit → scenario_of bytes ≡ Ok scenario → IsEndingOrMemory result }
+    // Where the words and the input are accepted, an ending is kept away by a failing end or want of memory alone.
+    ensures completeness { (o : Order) (bytes : List ℕ) (a : Answer) → order_of false words.now ≡ Ok o
+        → S.left input.old ≡ Some bytes → Fits (reads o) bytes → answer o bytes ≡ Ok a
+        → result.status ≢ Status.InputFault → result.status ≢ Status.OutputFault → IsEndingOrMemory result.status }
+
+    // No command closes a round.
+    ensures closed_rounds { result.rounds ≡ no_rounds }
 {
     let verdict = judge(alloc, words, input, out);
-    tell(err, &verdict);
-    status(&verdict)
+    verdict.tell(err);
+    verdict.ran()
 }

@@ -1,55 +1,73 @@
 ghost use Rattle.std.specs.Prelude.{◌≡◌};
-ghost use Rattle.sim_top.specs.Lines.{Told, line_for, status_for};
+ghost use Rattle.quiescence.specs.Rounds.{no_rounds};
+ghost use Rattle.sim_top.specs.Lines.{Told, line_for, ran, ran_for};
 
-use crate::lines::{write, write_scenario_line, write_words_line};
+use crate::lines::{write, write_refusal_line, write_too_long_line, write_words_line};
+use crate::reading::{InputRefusal, Reading};
+use crate::top::Ran;
 use crate::words::WordsRefusal;
-use scenario::Refusal;
+use quiescence::Rounds;
 use sim_base::{Sink, Status};
 
 /// What a call came to.
-#[derive(Drop, PartialEq, Eq)]
+#[derive(Drop)]
 pub enum Verdict {
-    /// The command ended with this status, and its whole output is written.
-    Ended(Status),
+    /// The command ended with this status and these rounds, and its whole answer is written.
+    Ended(Status, Rounds),
     /// The words are refused.
     Words(WordsRefusal),
-    /// The scenario is refused.
-    Scenario(Refusal),
-    /// The input has more bytes than a scenario may have.
-    TooLong,
+    /// What was read is refused.
+    Refused(InputRefusal),
+    /// The input has more bytes than may be read.
+    TooLong(Reading),
     /// The input failed.
     InputFault,
-    /// The output failed; a part of what was to be written is.
-    OutputFault,
+    /// The output failed; a front of what was to be written is, and these rounds were closed.
+    OutputFault(Rounds),
     /// Want of memory.
     NoMemory,
 }
 
-/// The status of a verdict.
-pub(crate) fn status(verdict: &Verdict) -> Status
-    ensures { result ≡ status_for verdict.now }
+/// What a call answers that closed no round.
+fn unrun(status: Status) -> Ran
+    ensures { result ≡ ran status no_rounds }
 {
-    match verdict {
-        Verdict::Ended(status) => *status,
-        Verdict::Words(_) => Status::WordsRefused,
-        Verdict::Scenario(_) | Verdict::TooLong => Status::ScenarioRefused,
-        Verdict::InputFault => Status::InputFault,
-        Verdict::OutputFault => Status::OutputFault,
-        Verdict::NoMemory => Status::NoMemory,
+    Ran {
+        status,
+        rounds: Rounds::new(),
     }
 }
 
-/// Tries the line of a verdict; a command that ended has none. A failing sink changes nothing.
-pub(crate) fn tell<E: Sink>(err: &mut E, verdict: &Verdict)
-    ensures { Told E.written E.faults err.old err.new (line_for verdict.now) }
-{
-    let _ = match verdict {
-        Verdict::Ended(_) => Ok(()),
-        Verdict::Words(refusal) => write_words_line(err, *refusal),
-        Verdict::Scenario(refusal) => write_scenario_line(err, refusal),
-        Verdict::TooLong => write(err, b"scenario: too long\n"),
-        Verdict::InputFault => write(err, b"input fault\n"),
-        Verdict::OutputFault => write(err, b"output fault\n"),
-        Verdict::NoMemory => write(err, b"no memory\n"),
-    };
+impl Verdict {
+    /// What the call answers.
+    pub(crate) fn ran(self) -> Ran
+        ensures { result ≡ ran_for self }
+    {
+        match self {
+            Verdict::Ended(status, rounds) => Ran { status, rounds },
+            Verdict::OutputFault(rounds) => Ran {
+                status: Status::OutputFault,
+                rounds,
+            },
+            Verdict::Words(_) => unrun(Status::WordsRefused),
+            Verdict::Refused(_) | Verdict::TooLong(_) => unrun(Status::ScenarioRefused),
+            Verdict::InputFault => unrun(Status::InputFault),
+            Verdict::NoMemory => unrun(Status::NoMemory),
+        }
+    }
+
+    /// Tries the line of a verdict; a command that ended has none. A failing sink changes nothing.
+    pub(crate) fn tell<E: Sink>(&self, err: &mut E)
+        ensures { Told E.written E.faults err.old err.new (line_for self.now) }
+    {
+        let _ = match self {
+            Verdict::Ended(_, _) => Ok(()),
+            Verdict::Words(refusal) => write_words_line(err, *refusal),
+            Verdict::Refused(refusal) => write_refusal_line(err, refusal),
+            Verdict::TooLong(reading) => write_too_long_line(err, *reading),
+            Verdict::InputFault => write(err, b"input fault\n"),
+            Verdict::OutputFault(_) => write(err, b"output fault\n"),
+            Verdict::NoMemory => write(err, b"no memory\n"),
+        };
+    }
 }

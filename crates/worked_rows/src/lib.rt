@@ -6,6 +6,8 @@
 #[cfg(test)]
 mod depot_tests;
 #[cfg(test)]
+mod road_tests;
+#[cfg(test)]
 mod rows;
 #[cfg(test)]
 mod simulate_tests;

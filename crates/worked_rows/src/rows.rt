@@ -13,6 +13,13 @@ pub(crate) struct Run {
 pub(crate) const ONE_CLOCK: &str =
     r#"{"format":1,"last_tick":4,"results":["+*"],"actors":[{"name":"c","kind":"clock","period":2,"count":2}]}"#;
 
+/// Two depots whose refills have room for all but the last.
+pub(crate) const TWO_DEPOTS: &str =
+    r#"{"format":1,"last_tick":1,"max_actors":6,"results":["+*.trucks","+refill-*.cans","+m.stock"],"actors":[
+        {"name":"m","kind":"machine","stock":0,"price":1,"close_at":0},
+        {"name":"x","kind":"depot","machine":"m","at":1,"trucks":2,"cans":5},
+        {"name":"y","kind":"depot","machine":"m","at":1,"trucks":2,"cans":7}]}"#;
+
 /// Clocks, shops, balls, fuses and depots, and rules of all sorts.
 pub(crate) const RUNS: [Run; 24] = [
     Run {
@@ -81,17 +88,22 @@ pub(crate) const RUNS: [Run; 24] = [
         text: "tick,diasca,actor,probe,value\nend,1,0,fault:1:41,0\n",
     },
     Run {
-        scenario: r#"{"format":1,"last_tick":1,"results":["+*.trucks","+refill-*.cans","+m.stock"],"actors":[{"name":"m","kind":"machine","stock":0,"price":1,"close_at":0},{"name":"x","kind":"depot","machine":"m","at":1,"trucks":2,"cans":5},{"name":"y","kind":"depot","machine":"m","at":1,"trucks":2,"cans":7}]}"#,
+        scenario: r#"{"format":1,"last_tick":1,"results":["+*.trucks","+refill-*.cans","+m.stock"],"actors":[
+            {"name":"m","kind":"machine","stock":0,"price":1,"close_at":0},
+            {"name":"x","kind":"depot","machine":"m","at":1,"trucks":2,"cans":5},
+            {"name":"y","kind":"depot","machine":"m","at":1,"trucks":2,"cans":7}]}"#,
         status: Status::Done,
         text: "tick,diasca,actor,probe,value\n0,0,m,stock,0\n1,2,m,stock,24\n1,1,x,trucks,2\n1,1,y,trucks,2\n1,1,refill-4,cans,5\n1,1,refill-5,cans,5\n1,1,refill-6,cans,7\n1,1,refill-7,cans,7\nend,1,2,exhausted,0\n",
     },
     Run {
-        scenario: r#"{"format":1,"last_tick":1,"max_actors":6,"results":["+*.trucks","+refill-*.cans","+m.stock"],"actors":[{"name":"m","kind":"machine","stock":0,"price":1,"close_at":0},{"name":"x","kind":"depot","machine":"m","at":1,"trucks":2,"cans":5},{"name":"y","kind":"depot","machine":"m","at":1,"trucks":2,"cans":7}]}"#,
+        scenario: TWO_DEPOTS,
         status: Status::ActorFault,
         text: "tick,diasca,actor,probe,value\n0,0,m,stock,0\nend,1,0,fault:3:902,0\n",
     },
     Run {
-        scenario: r#"{"format":1,"seed":18446744073709551615,"last_tick":20,"results":["+r.*","+m.coins"],"actors":[{"name":"m","kind":"machine","stock":2,"price":2,"close_at":0},{"name":"r","kind":"random_customer","machine":"m","low":2,"high":9,"money":7,"offer":3}]}"#,
+        scenario: r#"{"format":1,"seed":18446744073709551615,"last_tick":20,"results":["+r.*","+m.coins"],"actors":[
+            {"name":"m","kind":"machine","stock":2,"price":2,"close_at":0},
+            {"name":"r","kind":"random_customer","machine":"m","low":2,"high":9,"money":7,"offer":3}]}"#,
         status: Status::Done,
         text: "tick,diasca,actor,probe,value\n0,0,m,coins,0\n6,1,m,coins,2\n13,1,m,coins,4\n19,1,m,coins,4\n6,2,r,cans,1\n13,2,r,cans,2\n19,2,r,cans,2\n6,2,r,money,5\n13,2,r,money,3\n19,2,r,money,3\nend,19,2,tick_limit,0\n",
     },
@@ -101,9 +113,14 @@ pub(crate) const RUNS: [Run; 24] = [
         text: "tick,diasca,actor,probe,value\n0,0,r,cans,4\n0,0,m,stock,1\n0,1,m,stock,5\n0,0,m,coins,0\n0,1,m,coins,0\nend,0,1,exhausted,0\n",
     },
     Run {
-        scenario: r#"{"format":1,"last_tick":3,"actors":[{"name":"r","kind":"random_customer","machine":"m","low":1,"high":2,"money":4,"offer":2},{"name":"m","kind":"machine","stock":0,"price":1,"close_at":0},{"name":"l","kind":"refill","machine":"m","cans":1}]}"#,
+        scenario: r#"{"format":1,"last_tick":3,"actors":[
+            {"name":"r","kind":"random_customer","machine":"m","low":1,"high":2,"money":4,"offer":2},
+            {"name":"m","kind":"machine","stock":0,"price":1,"close_at":0},
+            {"name":"l","kind":"refill","machine":"m","cans":1}]}"#,
         status: Status::Done,
-        text: "tick,diasca,actor,probe,value\n1,2,r,cans,1\n2,2,r,cans,1\n1,2,r,money,3\n2,2,r,money,3\n0,0,m,stock,0\n0,1,m,stock,1\n1,1,m,stock,0\n2,1,m,stock,0\n0,0,m,coins,0\n0,1,m,coins,0\n1,1,m,coins,1\n2,1,m,coins,1\n0,0,l,cans,1\nend,2,2,tick_limit,0\n",
+        text: "tick,diasca,actor,probe,value\n1,2,r,cans,1\n2,2,r,cans,1\n1,2,r,money,3\n2,2,r,money,3\n\
+            0,0,m,stock,0\n0,1,m,stock,1\n1,1,m,stock,0\n2,1,m,stock,0\n0,0,m,coins,0\n0,1,m,coins,0\n\
+            1,1,m,coins,1\n2,1,m,coins,1\n0,0,l,cans,1\nend,2,2,tick_limit,0\n",
     },
     Run {
         scenario: r#"{"format":1,"last_tick":1,"results":[],"actors":[{"name":"c","kind":"clock","period":1,"count":1},{"name":"cd","kind":"clock","period":1,"count":1}]}"#,
@@ -160,7 +177,7 @@ pub(crate) const REFUSED: [(&str, &str); 28] = [
         "scenario: unknown field aaaaaaaaaaaaaaaaaaaaaaaaaaaaaaaaaaaaaaaaaaaaaaaaaaaaaaaaaaaaaaaa\n",
     ),
     (r#"{"format":true}"#, "scenario: wrong type format\n"),
-    (r#"{"format":2}"#, "scenario: out of range format 2\n"),
+    (r#"{"format":3}"#, "scenario: out of range format 3\n"),
     (
         r#"{"format":1,"seed":-9223372036854775808}"#,
         "scenario: out of range seed -9223372036854775808\n",
@@ -238,14 +255,17 @@ const CLOCK_TEXT: &str =
 
 /// Two customers who want the one can: by the keys of their letters the first gets it.
 pub(crate) const TWO_CUSTOMERS: &str =
-    r#"{"format":1,"seed":8,"last_tick":1,"results":["+*.cans"],"actors":[{"name":"m","kind":"machine","stock":1,"price":3,"close_at":0},{"name":"ann","kind":"customer","machine":"m","period":1,"money":5,"offer":3},{"name":"bob","kind":"customer","machine":"m","period":1,"money":5,"offer":3}]}"#;
+    r#"{"format":1,"seed":8,"last_tick":1,"results":["+*.cans"],"actors":[
+        {"name":"m","kind":"machine","stock":1,"price":3,"close_at":0},
+        {"name":"ann","kind":"customer","machine":"m","period":1,"money":5,"offer":3},
+        {"name":"bob","kind":"customer","machine":"m","period":1,"money":5,"offer":3}]}"#;
 
 const CANS_TEXT: &str =
     "tick,diasca,actor,probe,value\n1,2,ann,cans,1\n1,2,bob,cans,0\nend,1,2,tick_limit,0\n";
 
-/// The options of `run`, a scenario, and its text, which is the same under every plan.
-pub(crate) const PLANNED: [(&[&str], &str, &str); 10] = [
-    (&["run"], ONE_CLOCK, CLOCK_TEXT),
+/// The options of `run`, a scenario, and its text, which is the same under every plan; without options it
+/// is among `RUNS`.
+pub(crate) const PLANNED: [(&[&str], &str, &str); 9] = [
     (&["run", "--managers", "16"], ONE_CLOCK, CLOCK_TEXT),
     (&["run", "--workers", "2"], ONE_CLOCK, CLOCK_TEXT),
     (
@@ -330,10 +350,6 @@ pub(crate) const REFUSED_WORDS: [(&[&str], &str); 9] = [
         "words: 4: unknown policy\n",
     ),
 ];
-
-/// Two depots whose refills have room for all but the last.
-pub(crate) const TWO_DEPOTS: &str =
-    r#"{"format":1,"last_tick":1,"max_actors":6,"results":["+*.trucks","+refill-*.cans","+m.stock"],"actors":[{"name":"m","kind":"machine","stock":0,"price":1,"close_at":0},{"name":"x","kind":"depot","machine":"m","at":1,"trucks":2,"cans":5},{"name":"y","kind":"depot","machine":"m","at":1,"trucks":2,"cans":7}]}"#;
 
 /// The bytes that an end of the outside passes at most a call, and the call that fails, from 1; 0 for
 /// none.

@@ -58,7 +58,7 @@ fn call<R: Abort + AllocGlobal + Sync + Threads>(
     let mut output = sink(alloc, ends.output)?;
     let mut error = sink(alloc, ends.error)?;
     let words = words.as_slice();
-    let status = simulate(
+    let ran = simulate(
         rt,
         alloc,
         words,
@@ -68,7 +68,7 @@ fn call<R: Abort + AllocGlobal + Sync + Threads>(
         &OpenGate,
     );
     Ok(Came {
-        status,
+        status: ran.status,
         input,
         output,
         error,
@@ -93,19 +93,25 @@ fn comes_to<R: Abort + AllocGlobal + Sync + Threads>(
 
 #[test]
 fn runs_give_their_text(rt: HostRuntime) -> Result<(), Fail> {
-    for run in RUNS {
+    for run in &RUNS {
         comes_to(&rt, &["run"], run.scenario, run.status, run.text, "")?;
     }
     Ok(())
 }
 
+/// Seeds, and how many cans each of two customers then gets.
+const WHO_GETS_IT: [(u64, i64, i64); 5] = [(0, 0, 1), (5, 0, 1), (7, 1, 0), (8, 1, 0), (9, 0, 1)];
+
 /// Two customers who want the one can: who gets it is decided by the order of the keys.
 #[test]
 fn the_seed_decides_who_gets_the_can(rt: HostRuntime) -> Result<(), Fail> {
     let alloc = rt.alloc();
-    for (seed, ann, bob) in [(0, 0, 1), (5, 0, 1), (7, 1, 0), (8, 1, 0), (9, 0, 1)] {
+    for (seed, ann, bob) in &WHO_GETS_IT {
         let scenario = format!(in alloc;
-            r#"{{"format":1,"seed":{seed},"last_tick":1,"results":["+*.cans"],"actors":[{{"name":"m","kind":"machine","stock":1,"price":3,"close_at":0}},{{"name":"ann","kind":"customer","machine":"m","period":1,"money":5,"offer":3}},{{"name":"bob","kind":"customer","machine":"m","period":1,"money":5,"offer":3}}]}}"#
+            r#"{{"format":1,"seed":{seed},"last_tick":1,"results":["+*.cans"],"actors":[
+                {{"name":"m","kind":"machine","stock":1,"price":3,"close_at":0}},
+                {{"name":"ann","kind":"customer","machine":"m","period":1,"money":5,"offer":3}},
+                {{"name":"bob","kind":"customer","machine":"m","period":1,"money":5,"offer":3}}]}}"#
         )?;
         let text = format!(in alloc;
             "tick,diasca,actor,probe,value\n1,2,ann,cans,{ann}\n1,2,bob,cans,{bob}\nend,1,2,tick_limit,0\n"
@@ -138,22 +144,27 @@ fn crowd(alloc: Global, customers: u32) -> Result<String, Fail> {
     Ok(text)
 }
 
+/// A run of this crowd has this status and end.
+fn crowd_comes_to<R: Abort + AllocGlobal + Sync + Threads>(
+    rt: &R,
+    customers: u32,
+    status: Status,
+    end: &str,
+) -> Result<(), Fail> {
+    let scenario = crowd(rt.alloc(), customers)?;
+    let text = format!(in rt.alloc(); "tick,diasca,actor,probe,value\nend,{end}\n")?;
+    comes_to(rt, &["run"], scenario.as_str(), status, text.as_str(), "")
+}
+
 #[test]
 fn a_machine_answers_1024_customers_and_no_more(rt: HostRuntime) -> Result<(), Fail> {
-    for (customers, status, end) in [
-        (1024, Status::Done, "1,2,tick_limit,0"),
-        (1025, Status::ActorFault, "1,1,fault:1:901,0"),
-    ] {
-        let scenario = crowd(rt.alloc(), customers)?;
-        let text = format!(in rt.alloc(); "tick,diasca,actor,probe,value\nend,{end}\n")?;
-        comes_to(&rt, &["run"], scenario.as_str(), status, text.as_str(), "")?;
-    }
-    Ok(())
+    crowd_comes_to(&rt, 1024, Status::Done, "1,2,tick_limit,0")?;
+    crowd_comes_to(&rt, 1025, Status::ActorFault, "1,1,fault:1:901,0")
 }
 
 #[test]
 fn a_plan_changes_no_byte(rt: HostRuntime) -> Result<(), Fail> {
-    for (words, scenario, text) in PLANNED {
+    for &(words, scenario, text) in &PLANNED {
         comes_to(&rt, words, scenario, Status::Done, text, "")?;
     }
     Ok(())
@@ -161,10 +172,9 @@ fn a_plan_changes_no_byte(rt: HostRuntime) -> Result<(), Fail> {
 
 #[test]
 fn other_texts_are_refused(rt: HostRuntime) -> Result<(), Fail> {
-    for (scenario, line) in REFUSED {
-        for command in ["run", "check"] {
-            comes_to(&rt, &[command], scenario, Status::ScenarioRefused, "", line)?;
-        }
+    for &(scenario, line) in &REFUSED {
+        comes_to(&rt, &["run"], scenario, Status::ScenarioRefused, "", line)?;
+        comes_to(&rt, &["check"], scenario, Status::ScenarioRefused, "", line)?;
     }
     Ok(())
 }
@@ -173,15 +183,13 @@ fn other_texts_are_refused(rt: HostRuntime) -> Result<(), Fail> {
 fn check_writes_the_canonical_text(rt: HostRuntime) -> Result<(), Fail> {
     let (scenario, canonical) = CHECKED;
     let text = format!(in rt.alloc(); "{canonical}\n")?;
-    for scenario in [scenario, canonical] {
-        comes_to(&rt, &["check"], scenario, Status::Done, text.as_str(), "")?;
-    }
-    Ok(())
+    comes_to(&rt, &["check"], scenario, Status::Done, text.as_str(), "")?;
+    comes_to(&rt, &["check"], canonical, Status::Done, text.as_str(), "")
 }
 
-/// How many bytes are left in the input, of at most 2,000.
+/// How many bytes are left in the input, of at most 256.
 fn left(input: &mut BytesIn) -> usize {
-    match input.take(&mut [0; 2000]) {
+    match input.take(&mut [0; 256]) {
         Taken::Bytes(count) => count,
         Taken::Failed => usize::MAX,
     }
@@ -189,7 +197,7 @@ fn left(input: &mut BytesIn) -> usize {
 
 #[test]
 fn refused_words_leave_the_input(rt: HostRuntime) -> Result<(), Fail> {
-    for (words, line) in REFUSED_WORDS {
+    for &(words, line) in &REFUSED_WORDS {
         let input = bytes_of(rt.alloc(), ONE_CLOCK)?;
         let mut came = call(&rt, words, input, ENDS)?;
         assert_eq!(rt; came.status, Status::WordsRefused, "{line}");
@@ -204,7 +212,7 @@ fn refused_words_leave_the_input(rt: HostRuntime) -> Result<(), Fail> {
 /// status.
 #[test]
 fn failing_ends_are_told(rt: HostRuntime) -> Result<(), Fail> {
-    for (scenario, ends, status, output, line) in FAILING {
+    for &(scenario, ends, status, output, line) in &FAILING {
         let input = bytes_of(rt.alloc(), scenario)?;
         let came = call(&rt, &["run"], input, ends)?;
         assert_eq!(rt; came.status, status);
@@ -214,25 +222,33 @@ fn failing_ends_are_told(rt: HostRuntime) -> Result<(), Fail> {
     Ok(())
 }
 
+/// Ends that pass much input a call.
+const WIDE: Ends = Ends {
+    input: End {
+        cut: 65_536,
+        ..STEADY
+    },
+    ..ENDS
+};
+
+/// So many blanks are refused with this line, and so many of them are left.
+fn blanks_come_to<R: Abort + AllocGlobal + Sync + Threads>(
+    rt: &R,
+    count: usize,
+    rest: usize,
+    line: &str,
+) -> Result<(), Fail> {
+    let blanks = Items::of(vec![in rt.alloc(); b' '; count]?);
+    let mut came = call(rt, &["run"], blanks, WIDE)?;
+    assert_eq!(rt; came.status, Status::ScenarioRefused, "{line}");
+    assert_eq!(rt; came.error.as_slice(), line.as_bytes());
+    assert_eq!(rt; left(&mut came.input), rest, "{count} blanks");
+    Ok(())
+}
+
 #[test]
 fn the_longest_input_is_read_and_no_longer_one(rt: HostRuntime) -> Result<(), Fail> {
-    let ends = Ends {
-        input: End {
-            cut: 65_536,
-            ..STEADY
-        },
-        ..ENDS
-    };
-    for (count, rest, line) in [
-        (16_777_216, 0, "scenario: not JSON\n"),
-        (16_777_217, 0, "scenario: too long\n"),
-        (16_777_220, 3, "scenario: too long\n"),
-    ] {
-        let blanks = Items::of(vec![in rt.alloc(); b' '; count]?);
-        let mut came = call(&rt, &["run"], blanks, ends)?;
-        assert_eq!(rt; came.status, Status::ScenarioRefused, "{line}");
-        assert_eq!(rt; came.error.as_slice(), line.as_bytes());
-        assert_eq!(rt; left(&mut came.input), rest, "{count} blanks");
-    }
-    Ok(())
+    blanks_come_to(&rt, 16_777_216, 0, "scenario: not JSON\n")?;
+    blanks_come_to(&rt, 16_777_217, 0, "scenario: too long\n")?;
+    blanks_come_to(&rt, 16_777_220, 3, "scenario: too long\n")
 }

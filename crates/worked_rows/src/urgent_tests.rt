@@ -1,3 +1,7 @@
+ghost use Rattle.std.specs.Prelude.{◌≤◌, IfOk};
+ghost use Rattle.std.specs.List.{All};
+ghost use Rattle.actor_trait.specs.InboxOrder.{AreUrgent};
+
 use crate::rows::TWO_CUSTOMERS;
 use result_store::text;
 use scenario::{AnyActor, Scenario};
@@ -6,6 +10,19 @@ use sim_model::{Setup, plain_run};
 use std::alloc::Global;
 use std::test::Fail;
 
+/// One urgent sender, of so many actors.
+fn urgent_of(alloc: Global, sender: u32, actors: usize) -> Result<Items<ActorId>, Fail>
+    ensures ascending { IfOk result (λ urgent. AreUrgent urgent) }
+    ensures known { IfOk result (λ urgent. All (λ id. (1 ≤ id.0) × (id.0 ≤ actors)) urgent) }
+{
+    if sender == 0 || sender as usize > actors {
+        return Err(Fail::from("no actor"));
+    }
+    let mut urgent = Vec::new(alloc);
+    urgent.push(ActorId(sender))?;
+    Ok(Items::of(urgent))
+}
+
 /// The setup with this seed and one urgent sender.
 fn with_urgent(
     alloc: Global,
@@ -13,29 +30,29 @@ fn with_urgent(
     seed: u64,
     sender: u32,
 ) -> Result<Setup<AnyActor>, Fail> {
-    if sender == 0 || sender as usize > setup.actors.len() {
-        return Err(Fail::from("no actor"));
-    }
-    let urgent = vec![in alloc; ActorId(sender); 1]?;
+    let urgent = urgent_of(alloc, sender, setup.actors.len())?;
     Ok(Setup {
         seed,
-        urgent: Items::of(urgent),
+        urgent,
         ..setup
     })
 }
+
+/// Seeds, urgent senders, and how many cans each of two customers then gets.
+const WHO_GETS_IT: [(u64, u32, i64, i64); 6] = [
+    (7, 1, 1, 0),
+    (7, 2, 1, 0),
+    (7, 3, 0, 1),
+    (9, 1, 0, 1),
+    (9, 2, 1, 0),
+    (9, 3, 0, 1),
+];
 
 /// The customer whose letter comes first gets the can.
 #[test]
 fn an_urgent_customer_gets_the_can(rt: HostRuntime) -> Result<(), Fail> {
     let alloc = rt.alloc();
-    for (seed, sender, ann, bob) in [
-        (7, 1, 1, 0),
-        (7, 2, 1, 0),
-        (7, 3, 0, 1),
-        (9, 1, 0, 1),
-        (9, 2, 1, 0),
-        (9, 3, 0, 1),
-    ] {
+    for &(seed, sender, ann, bob) in &WHO_GETS_IT {
         let Ok(scenario) = Scenario::read(alloc, TWO_CUSTOMERS.as_bytes()) else {
             return Err(Fail::from("no scenario"));
         };

@@ -7,7 +7,7 @@ use Rattle.sim_top.proofs.words.read_options.Given as goal
 abbrev pub invariant-pairs : goal.invariant-pairs
 invariant-pairs l = record {
   within : l.at ≤ length l.words;
-  so_far : options_from 1 nothing_chosen l.words ≡ options_from (l.at + 1) l.chosen (drop l.at l.words);
+  so_far : options_from l.options l.first nothing_chosen l.words ≡ options_from l.options (l.at + l.first) l.chosen (drop l.at l.words);
 }
 
 abbrev pub decreases-pairs : goal.decreases-pairs

@@ -1,0 +1,8 @@
+-- What each command answers.
+pub mod Check
+pub mod Gen
+pub mod Help
+pub mod Plan
+pub mod Run
+pub mod Upgrade
+pub mod Version

@@ -1,0 +1,15 @@
+pub mod Climbing
+pub mod Publishes
+pub mod Places
+pub mod Telling
+pub mod Starting
+pub mod Turning
+pub mod Takes
+pub mod Gathers
+pub mod CollectsAll
+pub mod Uniting
+pub mod Harvesting
+pub mod Closing
+pub mod Phases
+pub mod Sends
+pub mod Dealing

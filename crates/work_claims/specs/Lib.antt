@@ -1,0 +1,6 @@
+pub mod Placed
+pub mod Letters
+pub mod Acting
+pub mod Collecting
+pub mod Together
+pub mod Harvest

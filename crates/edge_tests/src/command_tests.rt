@@ -7,11 +7,18 @@ use std::thread::Threads;
 
 /// A machine and two customers.
 const TWO_CUSTOMERS: &str =
-    r#"{"format":1,"seed":7,"last_tick":1,"results":["+*.cans"],"actors":[{"name":"m","kind":"machine","stock":1,"price":3,"close_at":0},{"name":"ann","kind":"customer","machine":"m","period":1,"money":5,"offer":3},{"name":"bob","kind":"customer","machine":"m","period":1,"money":5,"offer":3}]}"#;
+    "{\"format\":1,\"seed\":7,\"last_tick\":1,\"results\":[\"+*.cans\"],\"actors\":[{\"name\":\"m\",\
+        \"kind\":\"machine\",\"stock\":1,\"price\":3,\"close_at\":0},{\"name\":\"ann\",\
+        \"kind\":\"customer\",\"machine\":\"m\",\"period\":1,\"money\":5,\"offer\":3},{\"name\":\"bob\",\
+        \"kind\":\"customer\",\"machine\":\"m\",\"period\":1,\"money\":5,\"offer\":3}]}";
 
 /// The same in format 2, where the letters of the second customer come first.
 const BOB_FIRST: &str =
-    r#"{"format":2,"seed":7,"last_tick":1,"results":["+*.cans"],"urgent":["bob"],"actors":[{"name":"m","kind":"machine","stock":1,"price":3,"close_at":0},{"name":"ann","kind":"customer","machine":"m","period":1,"money":5,"offer":3},{"name":"bob","kind":"customer","machine":"m","period":1,"money":5,"offer":3}]}"#;
+    "{\"format\":2,\"seed\":7,\"last_tick\":1,\"results\":[\"+*.cans\"],\"urgent\":[\"bob\"],\
+        \"actors\":[{\"name\":\"m\",\"kind\":\"machine\",\"stock\":1,\"price\":3,\"close_at\":0},\
+        {\"name\":\"ann\",\"kind\":\"customer\",\"machine\":\"m\",\"period\":1,\"money\":5,\"offer\":3},\
+        {\"name\":\"bob\",\"kind\":\"customer\",\"machine\":\"m\",\"period\":1,\"money\":5,\
+        \"offer\":3}]}";
 
 const BOB_CANS: &str =
     "tick,diasca,actor,probe,value\n1,2,ann,cans,0\n1,2,bob,cans,1\nend,1,2,tick_limit,0\n";

@@ -148,12 +148,25 @@ const UPGRADED: [(&str, &str); 3] = [
         r#"{"actors":[{"count":2,"kind":"clock","name":"c","period":2}],"diasca_limit":1000,"format":2,"last_tick":4,"max_actors":10000,"results":["+*"],"seed":0,"urgent":[]}"#,
     ),
     (
-        r#"{"format":1,"last_tick":4,"results":[],"actors":[{"name":"o","kind":"origin","period":7,"count":100000,"route":["r","s","r"]},{"name":"r","kind":"road","room":1,"length":1000000},{"name":"s","kind":"road","room":1000000,"length":1}]}"#,
-        r#"{"actors":[{"count":100000,"kind":"origin","name":"o","period":7,"route":["r","s","r"]},{"kind":"road","length":1000000,"name":"r","room":1},{"kind":"road","length":1,"name":"s","room":1000000}],"diasca_limit":1000,"format":2,"last_tick":4,"max_actors":10000,"results":[],"seed":0,"urgent":[]}"#,
+        "{\"format\":1,\"last_tick\":4,\"results\":[],\"actors\":[{\"name\":\"o\",\
+            \"kind\":\"origin\",\"period\":7,\"count\":100000,\"route\":[\"r\",\"s\",\"r\"]},\
+            {\"name\":\"r\",\"kind\":\"road\",\"room\":1,\"length\":1000000},{\"name\":\"s\",\
+            \"kind\":\"road\",\"room\":1000000,\"length\":1}]}",
+        "{\"actors\":[{\"count\":100000,\"kind\":\"origin\",\"name\":\"o\",\"period\":7,\
+            \"route\":[\"r\",\"s\",\"r\"]},{\"kind\":\"road\",\"length\":1000000,\"name\":\"r\",\
+            \"room\":1},{\"kind\":\"road\",\"length\":1,\"name\":\"s\",\"room\":1000000}],\
+            \"diasca_limit\":1000,\"format\":2,\"last_tick\":4,\"max_actors\":10000,\"results\":[],\
+            \"seed\":0,\"urgent\":[]}",
     ),
     (
-        r#"{"format":2,"urgent":["b","a","b"],"max_actors":1000000,"last_tick":4,"results":[],"actors":[{"name":"a","kind":"fuse","at":0,"code":1},{"name":"x","kind":"fuse","at":0,"code":1},{"name":"b","kind":"fuse","at":0,"code":1}]}"#,
-        r#"{"actors":[{"at":0,"code":1,"kind":"fuse","name":"a"},{"at":0,"code":1,"kind":"fuse","name":"x"},{"at":0,"code":1,"kind":"fuse","name":"b"}],"diasca_limit":1000,"format":2,"last_tick":4,"max_actors":1000000,"results":[],"seed":0,"urgent":["a","b"]}"#,
+        "{\"format\":2,\"urgent\":[\"b\",\"a\",\"b\"],\"max_actors\":1000000,\"last_tick\":4,\
+            \"results\":[],\"actors\":[{\"name\":\"a\",\"kind\":\"fuse\",\"at\":0,\"code\":1},\
+            {\"name\":\"x\",\"kind\":\"fuse\",\"at\":0,\"code\":1},{\"name\":\"b\",\"kind\":\"fuse\",\
+            \"at\":0,\"code\":1}]}",
+        "{\"actors\":[{\"at\":0,\"code\":1,\"kind\":\"fuse\",\"name\":\"a\"},{\"at\":0,\"code\":1,\
+            \"kind\":\"fuse\",\"name\":\"x\"},{\"at\":0,\"code\":1,\"kind\":\"fuse\",\"name\":\"b\"}],\
+            \"diasca_limit\":1000,\"format\":2,\"last_tick\":4,\"max_actors\":1000000,\"results\":[],\
+            \"seed\":0,\"urgent\":[\"a\",\"b\"]}",
     ),
 ];
 
@@ -169,7 +182,18 @@ fn an_upgraded_scenario_is_one_of_format_2(rt: HostRuntime) -> Result<(), Fail> 
 
 /// What one group is generated to: it leads to itself.
 const ONE_GROUP: &str =
-    r#"{"actors":[{"close_at":0,"kind":"machine","name":"m_0","price":2,"stock":20},{"kind":"road","length":3,"name":"a_0","room":2},{"kind":"road","length":2,"name":"b_0","room":1},{"count":5,"kind":"origin","name":"o_0","period":7,"route":["a_0","b_0","a_0"]},{"kind":"customer","machine":"m_0","money":100,"name":"c_0","offer":2,"period":10},{"kind":"customer","machine":"m_0","money":100,"name":"d_0","offer":3,"period":10},{"high":20,"kind":"random_customer","low":1,"machine":"m_0","money":60,"name":"e_0","offer":2},{"high":15,"kind":"random_customer","low":5,"machine":"m_0","money":60,"name":"f_0","offer":5},{"at":40,"cans":10,"kind":"depot","machine":"m_0","name":"w_0","trucks":2},{"count":4,"kind":"clock","name":"k_0","period":25}],"diasca_limit":1000,"format":1,"last_tick":100,"max_actors":200000,"results":["+*.trip","+*.stock","+*.cars"],"seed":1}"#;
+    "{\"actors\":[{\"close_at\":0,\"kind\":\"machine\",\"name\":\"m_0\",\"price\":2,\"stock\":20},\
+        {\"kind\":\"road\",\"length\":3,\"name\":\"a_0\",\"room\":2},{\"kind\":\"road\",\"length\":2,\
+        \"name\":\"b_0\",\"room\":1},{\"count\":5,\"kind\":\"origin\",\"name\":\"o_0\",\"period\":7,\
+        \"route\":[\"a_0\",\"b_0\",\"a_0\"]},{\"kind\":\"customer\",\"machine\":\"m_0\",\"money\":100,\
+        \"name\":\"c_0\",\"offer\":2,\"period\":10},{\"kind\":\"customer\",\"machine\":\"m_0\",\
+        \"money\":100,\"name\":\"d_0\",\"offer\":3,\"period\":10},{\"high\":20,\
+        \"kind\":\"random_customer\",\"low\":1,\"machine\":\"m_0\",\"money\":60,\"name\":\"e_0\",\
+        \"offer\":2},{\"high\":15,\"kind\":\"random_customer\",\"low\":5,\"machine\":\"m_0\",\
+        \"money\":60,\"name\":\"f_0\",\"offer\":5},{\"at\":40,\"cans\":10,\"kind\":\"depot\",\
+        \"machine\":\"m_0\",\"name\":\"w_0\",\"trucks\":2},{\"count\":4,\"kind\":\"clock\",\
+        \"name\":\"k_0\",\"period\":25}],\"diasca_limit\":1000,\"format\":1,\"last_tick\":100,\
+        \"max_actors\":200000,\"results\":[\"+*.trip\",\"+*.stock\",\"+*.cars\"],\"seed\":1}";
 
 #[test]
 fn one_group_is_generated(rt: HostRuntime) -> Result<(), Fail> {

@@ -2,6 +2,7 @@
 ghost use Rattle.std.specs.Prelude.{◌≡◌, ◌≤◌, pos, IfOk};
 ghost use Rattle.scenario.specs.Build.{Fits, build, kind_of_actor, show};
 ghost use Rattle.scenario.specs.Table.{fields_of};
+ghost use Rattle.scenario.specs.declared.table.Kind.TheVariants as kind;
 
 use crate::AnyActor;
 use crate::table::Kind;
@@ -44,107 +45,174 @@ pub(crate) fn build(kind: Kind, contents: &[Content], alloc: Global) -> Result<A
     ensures { IfOk result (λ a. a ≡ build kind contents.now) }
 {
     match kind {
-        Kind::Clock => match contents {
-            [Number(period), Number(count)] => Ok(AnyActor::Clock(Clock {
-                period: *period,
-                count: signed(*count),
-                beats: 0,
-            })),
-            _ => unreachable!(),
-        },
-        Kind::Ball => match contents {
-            [Actor(peer), Number(at), Number(hits)] => Ok(AnyActor::Ball(Ball {
-                peer: *peer,
-                at: *at,
-                hits: signed(*hits),
-                received: 0,
-            })),
-            _ => unreachable!(),
-        },
-        Kind::Fuse => match contents {
-            [Number(at), Number(code)] => Ok(AnyActor::Fuse(Fuse {
-                at: *at,
-                code: *code as u32,
-            })),
-            _ => unreachable!(),
-        },
-        Kind::Machine => match contents {
-            [Number(stock), Number(price), Number(close_at)] => Ok(AnyActor::Machine(Machine {
-                stock: signed(*stock),
-                price: signed(*price),
-                close_at: *close_at,
-                coins: 0,
-            })),
-            _ => unreachable!(),
-        },
-        Kind::Customer => match contents {
-            [Actor(machine), Number(period), Number(money), Number(offer)] => Ok(
-                AnyActor::Customer(Customer {
-                    machine: *machine,
-                    period: *period,
-                    money: signed(*money),
-                    offer: signed(*offer),
-                    cans: 0,
-                }),
-            ),
-            _ => unreachable!(),
-        },
-        Kind::RandomCustomer => match contents {
-            [
-                Actor(machine),
-                Number(low),
-                Number(high),
-                Number(money),
-                Number(offer),
-            ] => Ok(AnyActor::RandomCustomer(RandomCustomer {
-                machine: *machine,
-                low: *low,
-                high: *high,
-                money: signed(*money),
-                offer: signed(*offer),
-                cans: 0,
-            })),
-            _ => unreachable!(),
-        },
-        Kind::Refill => match contents {
-            [Actor(machine), Number(cans)] => Ok(AnyActor::Refill(Refill {
-                machine: *machine,
-                cans: signed(*cans),
-            })),
-            _ => unreachable!(),
-        },
-        Kind::Depot => match contents {
-            [Actor(machine), Number(at), Number(trucks), Number(cans)] => Ok(AnyActor::Depot(
-                Depot {
-                    machine: *machine,
-                    at: *at,
-                    trucks: *trucks as u32,
-                    cans: signed(*cans),
-                    born: 0,
-                },
-            )),
-            _ => unreachable!(),
-        },
-        Kind::Road => match contents {
-            [Number(length), Number(room)] => Ok(AnyActor::Road(Road {
-                length: signed(*length),
-                room: signed(*room),
-                cars: 0,
-                queue: Items::new(alloc),
-            })),
-            _ => unreachable!(),
-        },
-        Kind::Origin => match contents {
-            [Route(route), Number(period), Number(count)] => Ok(AnyActor::Origin(Origin {
-                route: copied(alloc, route.as_slice())?,
-                period: *period,
-                count: *count as u32,
-                left: *count as u32,
-                born: 0,
-            })),
-            _ => unreachable!(),
-        },
+        Kind::Clock => Ok(clock(contents)),
+        Kind::Ball => Ok(ball(contents)),
+        Kind::Fuse => Ok(fuse(contents)),
+        Kind::Machine => Ok(machine(contents)),
+        Kind::Customer => Ok(customer(contents)),
+        Kind::RandomCustomer => Ok(random_customer(contents)),
+        Kind::Refill => Ok(refill(contents)),
+        Kind::Depot => Ok(depot(contents)),
+        Kind::Road => Ok(road(alloc, contents)),
+        Kind::Origin => origin(alloc, contents),
     }
+}
+
+fn clock(contents: &[Content]) -> AnyActor
+    requires { Fits 0 (fields_of kind.Clock) contents.now }
+    ensures { result ≡ build kind.Clock contents.now }
+{
+    let [Number(period), Number(count)] = contents else {
+        unreachable!()
+    };
+    AnyActor::Clock(Clock {
+        period: *period,
+        count: signed(*count),
+        beats: 0,
+    })
+}
+
+fn ball(contents: &[Content]) -> AnyActor
+    requires { Fits 0 (fields_of kind.Ball) contents.now }
+    ensures { result ≡ build kind.Ball contents.now }
+{
+    let [Actor(peer), Number(at), Number(hits)] = contents else {
+        unreachable!()
+    };
+    AnyActor::Ball(Ball {
+        peer: *peer,
+        at: *at,
+        hits: signed(*hits),
+        received: 0,
+    })
+}
+
+fn fuse(contents: &[Content]) -> AnyActor
+    requires { Fits 0 (fields_of kind.Fuse) contents.now }
+    ensures { result ≡ build kind.Fuse contents.now }
+{
+    let [Number(at), Number(code)] = contents else {
+        unreachable!()
+    };
+    AnyActor::Fuse(Fuse {
+        at: *at,
+        code: *code as u32,
+    })
+}
+
+fn machine(contents: &[Content]) -> AnyActor
+    requires { Fits 0 (fields_of kind.Machine) contents.now }
+    ensures { result ≡ build kind.Machine contents.now }
+{
+    let [Number(stock), Number(price), Number(close_at)] = contents else {
+        unreachable!()
+    };
+    AnyActor::Machine(Machine {
+        stock: signed(*stock),
+        price: signed(*price),
+        close_at: *close_at,
+        coins: 0,
+    })
+}
+
+fn customer(contents: &[Content]) -> AnyActor
+    requires { Fits 0 (fields_of kind.Customer) contents.now }
+    ensures { result ≡ build kind.Customer contents.now }
+{
+    let [Actor(machine), Number(period), Number(money), Number(offer)] = contents else {
+        unreachable!()
+    };
+    AnyActor::Customer(Customer {
+        machine: *machine,
+        period: *period,
+        money: signed(*money),
+        offer: signed(*offer),
+        cans: 0,
+    })
+}
+
+fn random_customer(contents: &[Content]) -> AnyActor
+    requires { Fits 0 (fields_of kind.RandomCustomer) contents.now }
+    ensures { result ≡ build kind.RandomCustomer contents.now }
+{
+    let [
+        Actor(machine),
+        Number(low),
+        Number(high),
+        Number(money),
+        Number(offer),
+    ] = contents
+    else {
+        unreachable!()
+    };
+    AnyActor::RandomCustomer(RandomCustomer {
+        machine: *machine,
+        low: *low,
+        high: *high,
+        money: signed(*money),
+        offer: signed(*offer),
+        cans: 0,
+    })
+}
+
+fn refill(contents: &[Content]) -> AnyActor
+    requires { Fits 0 (fields_of kind.Refill) contents.now }
+    ensures { result ≡ build kind.Refill contents.now }
+{
+    let [Actor(machine), Number(cans)] = contents else {
+        unreachable!()
+    };
+    AnyActor::Refill(Refill {
+        machine: *machine,
+        cans: signed(*cans),
+    })
+}
+
+fn depot(contents: &[Content]) -> AnyActor
+    requires { Fits 0 (fields_of kind.Depot) contents.now }
+    ensures { result ≡ build kind.Depot contents.now }
+{
+    let [Actor(machine), Number(at), Number(trucks), Number(cans)] = contents else {
+        unreachable!()
+    };
+    AnyActor::Depot(Depot {
+        machine: *machine,
+        at: *at,
+        trucks: *trucks as u32,
+        cans: signed(*cans),
+        born: 0,
+    })
+}
+
+fn road(alloc: Global, contents: &[Content]) -> AnyActor
+    requires { Fits 0 (fields_of kind.Road) contents.now }
+    ensures { result ≡ build kind.Road contents.now }
+{
+    let [Number(length), Number(room)] = contents else {
+        unreachable!()
+    };
+    AnyActor::Road(Road {
+        length: signed(*length),
+        room: signed(*room),
+        cars: 0,
+        queue: Items::new(alloc),
+    })
+}
+
+fn origin(alloc: Global, contents: &[Content]) -> Result<AnyActor, AllocError>
+    requires { Fits 0 (fields_of kind.Origin) contents.now }
+    ensures { IfOk result (λ a. a ≡ build kind.Origin contents.now) }
+{
+    let [Route(route), Number(period), Number(count)] = contents else {
+        unreachable!()
+    };
+    Ok(AnyActor::Origin(Origin {
+        route: copied(alloc, route.as_slice())?,
+        period: *period,
+        count: *count as u32,
+        left: *count as u32,
+        born: 0,
+    }))
 }
 
 /// What the fields of an actor hold.

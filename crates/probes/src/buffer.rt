@@ -4,9 +4,10 @@ ghost use Rattle.probes.specs.LiveOrder.{comes_before, ends_before, row_of};
 
 use crate::order::is_before;
 use actor_trait::Sample;
-use sim_base::{ActorId, Memory, Moment, Row};
+use sim_base::{ActorId, Items, Memory, Moment, Row};
 use std::alloc::Global;
 use std::marker::Model;
+use std::mem;
 
 /// Rows that rise by moment, then by actor. Contracts see the list of them.
 #[derive(Drop)]
@@ -43,6 +44,22 @@ impl Buffer {
         ensures live { IsSortedBy comes_before result.now }
     {
         self.rows.as_slice()
+    }
+
+    /// Lets all rows go, and keeps their room.
+    pub fn clear(&mut self)
+        ensures { self.new ≡ [] }
+    {
+        self.rows.clear();
+    }
+
+    /// Hands all rows out, uncopied, with their room. What is added later takes memory anew.
+    pub fn take(&mut self, alloc: Global) -> Items<Row>
+        ensures rows { result ≡ self.old }
+        ensures none { self.new ≡ [] }
+        ensures live { IsSortedBy comes_before result }
+    {
+        Items::of(mem::replace(&mut self.rows, Vec::new(alloc)))
     }
 
     /// Whether the last row is of an earlier moment, or of the same one and a lesser actor; also where

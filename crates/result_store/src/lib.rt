@@ -8,4 +8,4 @@ mod run_text;
 mod threads;
 
 pub use rules::{Rules, RulesFault};
-pub use run_text::text;
+pub use run_text::{add_end_line, text};

@@ -153,19 +153,16 @@ fn add_ending(text: &mut Vec<u8>, ending: Ending) -> Result<(), Memory>
     }
 }
 
-fn add_end(
-    text: &mut Vec<u8>,
-    last: Moment,
-    ending: Ending,
-    dead_letters: u64,
-) -> Result<(), Memory>
-    ensures { OnOk result (text.new.items ≡ text.old.items ++ end_line last ending dead_letters) }
+/// Adds the last line of a run's text: the last moment, the ending and the dead letters. Err is want of
+/// memory; a front of the line may then stand there.
+pub fn add_end_line(text: &mut Vec<u8>, results: &Results) -> Result<(), Memory>
+    ensures { OnOk result (text.new.items ≡ text.old.items ++ end_line results.now.last results.now.ending results.now.dead_letters) }
 {
     add(text, b"end,")?;
-    add_moment(text, last)?;
-    add_ending(text, ending)?;
+    add_moment(text, results.last)?;
+    add_ending(text, results.ending)?;
     add(text, b",")?;
-    add_number(text, dead_letters)?;
+    add_number(text, results.dead_letters)?;
     add(text, b"\n")
 }
 
@@ -182,11 +179,6 @@ pub fn text(alloc: Global, results: &Results, rules: &Rules) -> Result<Items<u8>
     let mut text = Vec::with_capacity(alloc, room)?;
     add(&mut text, b"tick,diasca,actor,probe,value\n")?;
     add_cast(&mut text, rules, &chains, cast)?;
-    add_end(
-        &mut text,
-        results.last,
-        results.ending,
-        results.dead_letters,
-    )?;
+    add_end_line(&mut text, results)?;
     Ok(Items::of(text))
 }

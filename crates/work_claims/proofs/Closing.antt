@@ -1,5 +1,5 @@
 -- The end: a whole hand that has done all and acknowledged all has closed the round.
-use Rattle.std.proofs.Common.{◌≡◌, ℕ, zero, suc, ◌<◌, ◌≤◌, false, nat_eq, List, get_or, length, slice_index, take, refl, sym, ap, ◌∙◌, arith}
+use Rattle.std.proofs.Common.{◌≡◌, ℕ, zero, suc, ◌*◌, ◌<◌, ◌≤◌, false, nat_eq, List, get_or, length, slice_index, take, refl, sym, ap, ◌∙◌, arith}
 use Rattle.std.specs.List.Sorted.{IsNonDecreasingBy, IsPermutation}
 use Rattle.std.proofs.lemmas.List.Sorted.{sum_by-IsPermutation}
 use Rattle.std.proofs.lemmas.List.Sums.{count_by-le-length, length-filter}
@@ -71,6 +71,7 @@ module _ {A : Type 0} (p : Placed A) (t : Shape) (fits : FitsRound p t) where
     closing c is same = record {
       managers = ap (λ (l : List ℕ). length l) is.scheduled ∙ fits.managers_are;
       scheduled = λ k lk. ap (λ (l : List ℕ). slice_index l k) is.scheduled ∙ fits.scheduled_are k lk;
+      pairs = is.pairs ∙ ap (λ (n : ℕ). n * n) fits.managers_are;
       posted = λ k n lk ln. let f = fits.managers_are in
           is.posted k n (omega arith) (omega arith) ∙ work.posted k n lk ln ∙ ap (letters_between m p k n) same;
     }

@@ -13,3 +13,4 @@ pub mod Closing
 pub mod Phases
 pub mod Sends
 pub mod Dealing
+pub mod Worlds

@@ -1,5 +1,5 @@
 -- What comes of a moment by many hands.
-use Rattle.std.specs.Prelude.{◌≡◌, ℕ, ◌<◌, slice_index, length}
+use Rattle.std.specs.Prelude.{◌≡◌, ℕ, ◌*◌, ◌<◌, slice_index, length}
 use Rattle.actor_trait.specs.Meaning.{Meaning}
 use Rattle.inbox_order.specs.Inboxes.{AreInboxesOf}
 use Rattle.quiescence.specs.Ended.{Closing, letters}
@@ -11,6 +11,7 @@ use Rattle.work_claims.specs.declared.harvest.Harvest.{Harvest}
 pub record IsClosing {A : Type 0} (m : Meaning A) (p : Placed A) (closed : Closing) : Type 0 where
   pub managers : length closed.scheduled ≡ p.managers
   pub scheduled : (k : ℕ) → k < p.managers → slice_index closed.scheduled k ≡ length (scheduled_at p k)
+  pub pairs : length closed.posted ≡ p.managers * p.managers
   pub posted : (k n : ℕ) → k < p.managers → n < p.managers → letters closed k n ≡ letters_between m p k n (reports_at m p)
 
 -- the reports of all that are scheduled, ascending; the inboxes of what they send, each in its order; and the round that they closed

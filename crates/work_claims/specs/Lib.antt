@@ -4,3 +4,4 @@ pub mod Acting
 pub mod Collecting
 pub mod Together
 pub mod Harvest
+pub mod Worlds

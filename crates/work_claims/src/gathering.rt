@@ -1,4 +1,4 @@
-ghost use Rattle.std.specs.Prelude.{◌≡◌, ◌++◌, ◌≤◌, ◌^◌, ◌<◌, ℕ, [], ◌∷◌, cond, false, get_or, length, IfOk, OnOk};
+ghost use Rattle.std.specs.Prelude.{◌≡◌, ◌++◌, ◌≤◌, ◌^◌, ◌<◌, ℕ, [], ◌∷◌, cond, true, false, get_or, length, IfOk, OnOk};
 ghost use Rattle.std.specs.List.{filter, list_any};
 ghost use Rattle.sim_base.specs.declared.ids.ActorId.{ActorId};
 ghost use Rattle.actor_trait.specs.InboxOrder.{inbox_order};
@@ -124,6 +124,7 @@ pub(crate) fn inboxes_of<A: Actor, W: Scene<A>>(
     reports: &[Report<A>],
     mine: &[bool; MANAGERS],
 ) -> Result<Items<Inboxes>, Memory>
+    requires entered { (W.placed world.now).entered ≡ true }
     ensures { IfOk result (λ parts. (to : ActorId) → inbox_in parts to
         ≡ cond (get_or mine.now ((W.placed world.now).route to) false)
         (inbox_order (letters_sent A.meaning (W.placed world.now) reports.now) to (precedence_of (W.placed world.now))) []) }

@@ -19,6 +19,7 @@ mod sending;
 mod taking;
 mod threads;
 mod turns;
+mod world_scene;
 
 pub use acted::{Acted, Collected};
 pub use acting::act_phase;

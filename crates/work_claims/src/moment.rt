@@ -56,11 +56,21 @@ fn open<A: Actor, W: Scene<A>>(
     Round::open(alloc, tree, &counts[..world.managers() as usize], hands)
 }
 
-/// The reports, ascending by actor. Err is want of memory.
+/// Whether the reports ascend by actor, as those of one hand at one manager do.
+fn ascends<A>(reports: &[Report<A>]) -> bool
+    ensures { result ≡ true → IsNonDecreasingBy (λ r. r.id.0) reports.now }
+{
+    reports.is_sorted_by_key(|report| report.id.0)
+}
+
+/// The reports, ascending by actor. What ascends already is handed on as it is. Err is want of memory.
 fn sorted<A: Drop>(reports: Items<Report<A>>) -> Result<Items<Report<A>>, Memory>
     ensures permutation { IfOk result (λ sorted. IsPermutation reports sorted) }
     ensures ascending { IfOk result (λ sorted. IsNonDecreasingBy (λ r. r.id.0) sorted) }
 {
+    if ascends(reports.as_slice()) {
+        return Ok(reports);
+    }
     let mut list = reports.into_vec();
     list.sort_by_key(|report| report.id.0)?;
     Ok(Items::of(list))

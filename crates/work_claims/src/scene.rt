@@ -56,5 +56,6 @@ pub trait Scene<A: Actor> {
 
     /// In which order the letters come that are sent at the moment.
     fn precedence(&self) -> Precedence<'_>
+        requires entered { (placed self.now).entered ≡ true }
         ensures { result ≡ precedence_of (placed self.now) };
 }

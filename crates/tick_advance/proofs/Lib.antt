@@ -1,0 +1,10 @@
+pub mod Calling
+pub mod Ending
+pub mod Judging
+pub mod Keeping
+pub mod Opening
+pub mod Passing
+pub mod Rows
+pub mod Seeing
+pub mod Standing
+pub mod Sums

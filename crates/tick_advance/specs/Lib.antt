@@ -1,0 +1,6 @@
+pub mod Following
+pub mod Harvests
+pub mod Log
+pub mod RoundsOf
+pub mod Sound
+pub mod Standing

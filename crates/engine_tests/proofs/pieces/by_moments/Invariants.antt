@@ -1,0 +1,6 @@
+use Rattle.std.proofs.Common.{ℕ}
+use Rattle.tick_advance.specs.Standing.{StandsFor}
+use Rattle.engine_tests.proofs.pieces.by_moments.Given as goal
+
+abbrev pub invariant-loop-moment : goal.invariant-loop-moment
+invariant-loop-moment g l = (k : ℕ) × StandsFor g.A.Actor.meaning l.fn.setup k l.sim

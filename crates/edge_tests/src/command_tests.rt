@@ -12,16 +12,13 @@ const TWO_CUSTOMERS: &str =
         \"kind\":\"customer\",\"machine\":\"m\",\"period\":1,\"money\":5,\"offer\":3},{\"name\":\"bob\",\
         \"kind\":\"customer\",\"machine\":\"m\",\"period\":1,\"money\":5,\"offer\":3}]}";
 
-/// The same in format 2, where the letters of the second customer come first.
-const BOB_FIRST: &str =
+/// The same in format 2, with an urgent sender.
+const URGENT: &str =
     "{\"format\":2,\"seed\":7,\"last_tick\":1,\"results\":[\"+*.cans\"],\"urgent\":[\"bob\"],\
         \"actors\":[{\"name\":\"m\",\"kind\":\"machine\",\"stock\":1,\"price\":3,\"close_at\":0},\
         {\"name\":\"ann\",\"kind\":\"customer\",\"machine\":\"m\",\"period\":1,\"money\":5,\"offer\":3},\
         {\"name\":\"bob\",\"kind\":\"customer\",\"machine\":\"m\",\"period\":1,\"money\":5,\
         \"offer\":3}]}";
-
-const BOB_CANS: &str =
-    "tick,diasca,actor,probe,value\n1,2,ann,cans,0\n1,2,bob,cans,1\nend,1,2,tick_limit,0\n";
 
 /// Words, the scenario, the status, and what is written to the output and the error sink.
 type Case<'a> = (&'a [&'a str], &'a str, Status, &'a str, &'a str);
@@ -94,7 +91,7 @@ const PLANS: [Case<'static>; 4] = [
     ),
     (
         &["plan", "--managers", "2", "--policy", "load"],
-        BOB_FIRST,
+        URGENT,
         Status::Done,
         "actor,1,m,0\nactor,2,ann,1\nactor,3,bob,0\nnode,0,0,2\nnode,1,0,2\nnode,2,1,-\n",
         "",
@@ -126,45 +123,8 @@ fn plan_writes_the_managers_of_actors_and_their_tree(rt: HostRuntime) -> Result<
     Ok(())
 }
 
-/// Format 2 with an urgent sender, upgrades, and what is refused.
-const FORMATS: [Case<'static>; 7] = [
-    (
-        &["run", "--workers", "2", "--managers", "3"],
-        BOB_FIRST,
-        Status::Done,
-        BOB_CANS,
-        "",
-    ),
-    (
-        &[
-            "run",
-            "--workers",
-            "2",
-            "--managers",
-            "3",
-            "--policy",
-            "name",
-        ],
-        BOB_FIRST,
-        Status::Done,
-        BOB_CANS,
-        "",
-    ),
-    (
-        &[
-            "run",
-            "--workers",
-            "2",
-            "--managers",
-            "3",
-            "--policy",
-            "load",
-        ],
-        BOB_FIRST,
-        Status::Done,
-        BOB_CANS,
-        "",
-    ),
+/// Upgrades, and what is refused.
+const FORMATS: [Case<'static>; 4] = [
     (
         &["upgrade"],
         r#"{"format":1,"last_tick":4,"results":["+*"],"actors":[{"name":"c","kind":"clock","period":2,"count":2}]}"#,
@@ -196,7 +156,7 @@ const FORMATS: [Case<'static>; 7] = [
 ];
 
 #[test]
-fn urgent_senders_come_first_and_scenarios_are_upgraded(rt: HostRuntime) -> Result<(), Fail> {
+fn scenarios_are_upgraded(rt: HostRuntime) -> Result<(), Fail> {
     for case in &FORMATS {
         comes_to(&rt, case, 0)?;
     }
@@ -206,27 +166,13 @@ fn urgent_senders_come_first_and_scenarios_are_upgraded(rt: HostRuntime) -> Resu
 /// An input that stays as it is.
 const UNREAD_TEXT: &str = "not read";
 
-/// Words that read nothing: commands, among them large generated runs, and refused words.
-const UNREAD: [Case<'static>; 14] = [
+/// Words that read nothing: a command, and refused words.
+const UNREAD: [Case<'static>; 12] = [
     (
         &["--version"],
         UNREAD_TEXT,
         Status::Done,
         "buffersorrel 0.1.0\n",
-        "",
-    ),
-    (
-        &["gen", "1"],
-        UNREAD_TEXT,
-        Status::Done,
-        "actors,10\nsamples,65\nsha256,e8e83c7906af28c0ef0c145d31aab69330eec27f987ae34d77675db397eb8f60\nend,100,2,tick_limit,0\n",
-        "",
-    ),
-    (
-        &["gen", "0000000020", "--policy", "load", "--managers", "5"],
-        UNREAD_TEXT,
-        Status::Done,
-        "actors,200\nsamples,1315\nsha256,260ef88a2a41946213cd24bd23df6a9d3202a3c87dd595a535a2fbce292575ea\nend,100,2,tick_limit,0\n",
         "",
     ),
     (
@@ -314,19 +260,6 @@ fn what_reads_nothing_leaves_the_input(rt: HostRuntime) -> Result<(), Fail> {
         comes_to(&rt, case, UNREAD_TEXT.len())?;
     }
     Ok(())
-}
-
-/// A run of 20,000 actors and more than 128,000 samples.
-#[test]
-fn a_large_generated_run_has_its_summary(rt: HostRuntime) -> Result<(), Fail> {
-    let case: Case<'_> = (
-        &["gen", "2000", "--workers", "1", "--managers", "1"],
-        "",
-        Status::Done,
-        "actors,20000\nsamples,128351\nsha256,27a672b40acd5251276b2bc3099a7c7ae64147305994659f1b549dcd4a1bb958\nend,100,2,tick_limit,0\n",
-        "",
-    );
-    comes_to(&rt, &case, 0)
 }
 
 /// Some of what the page of usage tells.

@@ -4,11 +4,16 @@ use Rattle.std.proofs.lemmas.Bool.Decides.{nat_tests}
 use Rattle.quiescence.specs.Rounds.{no_rounds}
 use Rattle.sim_base.specs.declared.status.Status.{Status}
 use Rattle.sim_base.specs.declared.status.Status.TheVariants as status
-use Rattle.sim_top.proofs.Rounds.{unrun}
+use Rattle.scenario.specs.AnyActors.{any_meaning}
+use Rattle.scenario.specs.Format.{scenario_of}
+use Rattle.scenario.specs.Generated.{generated}
+use Rattle.scenario.specs.ScenarioParts.{ScenarioParts}
+use Rattle.tick_advance.specs.RoundsOf.{rounds_of}
+use Rattle.sim_top.proofs.Rounds.{of_gen, of_run, unrun}
 use Rattle.sim_top.proofs.Taking.{rest_left, taken_all, taken_within}
-use Rattle.sim_top.specs.Clauses.{FailsExactly, Fits, GivesAnswer, GivesFront, InputRefusedExactly, IsAnswer, LeavesInput, TakesNoMore, TriesErrorLine, WordsRefusedFirst, rest_of}
+use Rattle.sim_top.specs.Clauses.{ClosesRounds, FailsExactly, Fits, GivesAnswer, GivesFront, InputRefusedExactly, IsAnswer, LeavesInput, RunsNothing, TakesNoMore, TriesErrorLine, WordsRefusedFirst, rest_of}
 use Rattle.sim_top.specs.Lines.{Told, Tries, line_for, ran_for, words_line}
-use Rattle.sim_top.specs.Statuses.{IsEnding, IsEndingOrMemory, WritesNothing}
+use Rattle.sim_top.specs.Statuses.{IsEnding, IsEndingOrMemory, MayWrite, WritesNothing}
 use Rattle.sim_top.specs.Tasks.{Task, answer, answer_by, limit, reading_of, reads, reads_nothing, reads_scenario, task_of}
 use Rattle.sim_top.specs.Verdicts.{Comes, Ends, Gets, InputSound, InputStays, Judged, OutputStays, ReadsAll, TakesSome}
 use Rattle.sim_top.specs.declared.answer.Answer.{Answer}
@@ -16,6 +21,7 @@ use Rattle.sim_top.specs.declared.reading.InputRefusal.{InputRefusal}
 use Rattle.sim_top.specs.declared.reading.Reading.{Reading}
 use Rattle.sim_top.specs.declared.verdict.Verdict.{Verdict}
 use Rattle.sim_top.specs.declared.verdict.Verdict.TheVariants.{Ended, Words, Refused, TooLong, InputFault, OutputFault, NoMemory}
+use Rattle.sim_top.specs.declared.words.Command.TheVariants as command
 use Rattle.sim_top.specs.declared.words.Order.{Order}
 use Rattle.sim_top.specs.declared.words.WordsRefusal.{WordsRefusal}
 
@@ -333,15 +339,63 @@ module _ {S O : Type 0} (e : Ends S O) where
 
   -- ---- rounds
 
-  pub closed : (order : Result Order WordsRefusal) (v : Verdict) → Judged order e v → (ran_for v).rounds ≡ no_rounds
-  closed (Err r) v h = ap (λ (v : Verdict). (ran_for v).rounds) h.0
-  closed (Ok o) (Ended s rounds) h = h.2.4 ∙ unrun o h.0 h.2.0 h.2.1
-  closed (Ok o) (OutputFault rounds) h = h.2.3 ∙ unrun o h.0 h.2.0 h.2.1
-  closed (Ok o) (Refused r) h = refl
-  closed (Ok o) (TooLong r) h = refl
-  closed (Ok o) InputFault h = refl
-  closed (Ok o) NoMemory h = refl
-  closed (Ok o) (Words r) h = refl
+  -- the rounds are those of the answer to what an order was given
+  abbrev ClosesAsAnswered : Order → Verdict → Type 0
+  ClosesAsAnswered o v = (a : Answer) × (got : List ℕ) × Gets e (reads o) got × (answer o got ≡ Ok a) × ((ran_for v).rounds ≡ a.rounds)
+
+  closed_by : (o : Order) (v : Verdict) → Comes o e v → MayWrite (st v) → ClosesAsAnswered o v
+  closed_by o (Ended s rounds) h w = (h.2.0, h.0, h.1, h.2.1, h.2.4)
+  closed_by o (OutputFault rounds) h w = (h.2.0, h.0, h.1, h.2.1, h.2.3)
+  closed_by o (Refused r) h w = absurd w
+  closed_by o (TooLong r) h w = absurd w
+  closed_by o InputFault h w = absurd w
+  closed_by o NoMemory h w = absurd w
+  closed_by o (Words r) h w = absurd h
+
+  closes_none : (o : Order) (v : Verdict) → Comes o e v → WritesNothing (st v) → (ran_for v).rounds ≡ no_rounds
+  closes_none o (Ended s rounds) h w = absurd (ending_writes s h.2.5 w)
+  closes_none o (OutputFault rounds) h w = absurd w
+  closes_none o (Refused r) h w = refl
+  closes_none o (TooLong r) h w = refl
+  closes_none o InputFault h w = refl
+  closes_none o NoMemory h w = refl
+  closes_none o (Words r) h w = refl
+
+  closes_run : (o : Order) (v : Verdict) (bytes : List ℕ) (s : ScenarioParts) → Comes o e v → o.command ≡ command.Run → e.left e.input_before ≡ Some bytes
+      → scenario_of bytes ≡ Ok s → MayWrite (st v) → (ran_for v).rounds ≡ rounds_of any_meaning s.setup
+  closes_run o v bytes s h is told read w =
+      let c = closed_by o v h w in
+      let whole = of_whole (task_of o.command o.plan) bytes c.1 c.0 c.2 told c.3 in
+      c.4 ∙ of_run o bytes s c.0 is read whole.0
+
+  closes_gen : (o : Order) (v : Verdict) (n : ℕ) → Comes o e v → o.command ≡ command.Gen n → MayWrite (st v)
+      → (ran_for v).rounds ≡ rounds_of any_meaning (generated n).setup
+  closes_gen o v n h is w = let c = closed_by o v h w in c.4 ∙ of_gen o n c.1 c.0 is c.3
+
+  closes_other : (o : Order) (v : Verdict) → Comes o e v → RunsNothing o.command → (ran_for v).rounds ≡ no_rounds
+  closes_other o (Ended s rounds) h n = h.2.4 ∙ unrun o h.0 h.2.0 n h.2.1
+  closes_other o (OutputFault rounds) h n = h.2.3 ∙ unrun o h.0 h.2.0 n h.2.1
+  closes_other o (Refused r) h n = refl
+  closes_other o (TooLong r) h n = refl
+  closes_other o InputFault h n = refl
+  closes_other o NoMemory h n = refl
+  closes_other o (Words r) h n = refl
+
+  pub closed : (order : Result Order WordsRefusal) (v : Verdict) → Judged order e v → ClosesRounds order (e.left e.input_before) (ran_for v)
+  closed (Err r) v h = record {
+    of_run = λ o bytes s is. let clash : Err r ≡ Ok o = is in cc;
+    of_gen = λ o n is. let clash : Err r ≡ Ok o = is in cc;
+    of_other_commands = λ o is. let clash : Err r ≡ Ok o = is in cc;
+    of_other_statuses = λ w. ap (λ (v : Verdict). (ran_for v).rounds) h.0;
+  }
+  closed (Ok o) v h = record {
+    of_run = λ p bytes s is. subst (λ (p : Order). p.command ≡ command.Run → e.left e.input_before ≡ Some bytes → scenario_of bytes ≡ Ok s → MayWrite (st v)
+        → (ran_for v).rounds ≡ rounds_of any_meaning s.setup) (same_order o p is) (closes_run o v bytes s h);
+    of_gen = λ p n is. subst (λ (p : Order). p.command ≡ command.Gen n → MayWrite (st v) → (ran_for v).rounds ≡ rounds_of any_meaning (generated n).setup)
+        (same_order o p is) (closes_gen o v n h);
+    of_other_commands = λ p is. subst (λ (p : Order). RunsNothing p.command → (ran_for v).rounds ≡ no_rounds) (same_order o p is) (closes_other o v h);
+    of_other_statuses = closes_none o v h;
+  }
 
   -- ---- the error sink
 

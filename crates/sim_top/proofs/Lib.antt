@@ -1,4 +1,5 @@
 pub mod Clauses
+pub mod Endings
 pub mod Numbers
 pub mod Pairs
 pub mod Places

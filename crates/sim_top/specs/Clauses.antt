@@ -4,13 +4,22 @@ use Rattle.std.specs.Io.KnownBytes.{Appends}
 use Rattle.sim_base.specs.Outside.{TakesWithin, one_more}
 use Rattle.sim_base.specs.declared.status.Status.{Status}
 use Rattle.sim_base.specs.declared.status.Status.TheVariants as status
+use Rattle.quiescence.specs.Rounds.{no_rounds}
+use Rattle.scenario.specs.AnyActors.{any_meaning}
+use Rattle.scenario.specs.Format.{scenario_of}
+use Rattle.scenario.specs.Generated.{generated}
+use Rattle.scenario.specs.ScenarioParts.{ScenarioParts}
+use Rattle.tick_advance.specs.RoundsOf.{rounds_of}
 use Rattle.sim_top.specs.Lines.{refusal_line, too_long_line, words_line}
+use Rattle.sim_top.specs.Statuses.{MayWrite, WritesNothing}
 use Rattle.sim_top.specs.Tasks.{answer, limit, reads}
 use Rattle.sim_top.specs.Verdicts.{Ends, InputStays, OutputStays}
 use Rattle.sim_top.specs.declared.answer.Answer.{Answer}
 use Rattle.sim_top.specs.declared.reading.InputRefusal.{InputRefusal}
 use Rattle.sim_top.specs.declared.reading.Reading.{Reading}
 use Rattle.sim_top.specs.declared.top.Ran.{Ran}
+use Rattle.sim_top.specs.declared.words.Command.{Command}
+use Rattle.sim_top.specs.declared.words.Command.TheVariants as command
 use Rattle.sim_top.specs.declared.words.Order.{Order}
 use Rattle.sim_top.specs.declared.words.WordsRefusal.{WordsRefusal}
 
@@ -95,3 +104,23 @@ pub record TriesErrorLine (order : Result Order WordsRefusal) (left : Option (Li
 abbrev pub Fits : Option Reading → List ℕ → Type 0
 Fits None bytes = Unit {0}
 Fits (Some reading) bytes = length bytes ≤ limit reading
+
+-- the commands that run nothing
+abbrev pub RunsNothing : Command → Type 0
+RunsNothing command.Run = ⊥
+RunsNothing command.Live = ⊥
+RunsNothing (command.Gen n) = ⊥
+RunsNothing command.Check = Unit {0}
+RunsNothing command.Plan = Unit {0}
+RunsNothing command.Upgrade = Unit {0}
+RunsNothing command.Help = Unit {0}
+RunsNothing command.Version = Unit {0}
+
+-- the rounds that were closed: those of the run that is told, whole or a front of it, which are one for each of its
+-- moments at which somebody is scheduled; and none in any other case
+pub record ClosesRounds (order : Result Order WordsRefusal) (left : Option (List ℕ)) (r : Ran) : Type 0 where
+  pub of_run : (o : Order) (bytes : List ℕ) (s : ScenarioParts) → order ≡ Ok o → o.command ≡ command.Run → left ≡ Some bytes → scenario_of bytes ≡ Ok s
+      → MayWrite r.status → r.rounds ≡ rounds_of any_meaning s.setup
+  pub of_gen : (o : Order) (n : ℕ) → order ≡ Ok o → o.command ≡ command.Gen n → MayWrite r.status → r.rounds ≡ rounds_of any_meaning (generated n).setup
+  pub of_other_commands : (o : Order) → order ≡ Ok o → RunsNothing o.command → r.rounds ≡ no_rounds
+  pub of_other_statuses : WritesNothing r.status → r.rounds ≡ no_rounds

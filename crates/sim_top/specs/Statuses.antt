@@ -24,6 +24,17 @@ WritesNothing status.WordsRefused = Unit {0}
 WritesNothing status.ScenarioRefused = Unit {0}
 WritesNothing status.NoMemory = Unit {0}
 
+-- those with which an answer is written, whole or a front of it
+abbrev pub MayWrite : Status → Type 0
+MayWrite status.Done = Unit {0}
+MayWrite status.ActorFault = Unit {0}
+MayWrite status.DiascaLimit = Unit {0}
+MayWrite status.InputFault = ⊥
+MayWrite status.OutputFault = Unit {0}
+MayWrite status.WordsRefused = ⊥
+MayWrite status.ScenarioRefused = ⊥
+MayWrite status.NoMemory = ⊥
+
 -- those that are left where nothing failed and the scenario is accepted
 abbrev pub IsEndingOrMemory : Status → Type 0
 IsEndingOrMemory status.Done = Unit {0}

@@ -7,8 +7,9 @@ use crate::commands::{check, generated, help, plan, run, upgrade, version};
 use crate::reading::{InputRefusal, Reading};
 use crate::words::{Command, Order};
 use quiescence::Rounds;
-use sim_base::{Items, Memory, Status};
+use sim_base::{Gate, Items, Memory, Status};
 use std::alloc::Global;
+use std::thread::Threads;
 
 /// What an order is answered with.
 #[derive(Drop)]
@@ -52,21 +53,23 @@ pub(crate) fn reads(order: &Order) -> Option<Reading>
     }
 }
 
-/// The answer of an order to what it read.
-pub(crate) fn answer_of(
+/// The answer of an order to what it read. Workers pass the gate before each claim.
+pub(crate) fn answer_of<R: Threads + Sync, G: Gate + Sync>(
+    rt: &R,
     alloc: Global,
     order: &Order,
     bytes: Items<u8>,
+    gate: &G,
 ) -> Result<Answer, AnswerFault>
     requires { IsOffered order.now.command }
     ensures value { Gives result (answer order.now bytes) }
     ensures ending { IfOk result (λ a. IsEnding a.status) }
 {
     match order.command {
-        Command::Run | Command::Live => run::reply(alloc, bytes),
+        Command::Run | Command::Live => run::reply(rt, alloc, bytes, order.plan, gate),
         Command::Check => check::reply(alloc, bytes),
         Command::Plan => plan::reply(alloc, bytes, &order.plan),
-        Command::Gen(groups) => Ok(generated::reply(alloc, groups)?),
+        Command::Gen(groups) => Ok(generated::reply(rt, alloc, groups, order.plan, gate)?),
         Command::Upgrade => upgrade::reply(alloc, bytes),
         Command::Help => Ok(help::reply(alloc)?),
         Command::Version => Ok(version::reply(alloc)?),

@@ -1,6 +1,5 @@
 ghost use Rattle.std.specs.Prelude.{◌≡◌, ◌≢◌, List, ℕ, None, Ok, Some, false};
-ghost use Rattle.quiescence.specs.Rounds.{no_rounds};
-ghost use Rattle.sim_top.specs.Clauses.{FailsExactly, Fits, GivesAnswer, GivesFront, InputRefusedExactly, LeavesInput, TakesNoMore, TriesErrorLine, WordsRefusedFirst};
+ghost use Rattle.sim_top.specs.Clauses.{ClosesRounds, FailsExactly, Fits, GivesAnswer, GivesFront, InputRefusedExactly, LeavesInput, TakesNoMore, TriesErrorLine, WordsRefusedFirst};
 ghost use Rattle.sim_top.specs.Lines.{Told, Tries, line_for, ran_for};
 ghost use Rattle.sim_top.specs.Statuses.{IsEnding, IsEndingOrMemory, WritesNothing};
 ghost use Rattle.sim_top.specs.Tasks.{answer, reads};
@@ -29,7 +28,14 @@ pub struct Ran {
 }
 
 /// Writes the answer of an order that was given these bytes.
-fn write_answer<O: Sink>(alloc: Global, order: &Order, bytes: Items<u8>, out: &mut O) -> Verdict
+fn write_answer<R: Threads + Sync, O: Sink, G: Gate + Sync>(
+    rt: &R,
+    alloc: Global,
+    order: &Order,
+    bytes: Items<u8>,
+    out: &mut O,
+    gate: &G,
+) -> Verdict
     requires { IsOffered order.now.command }
     ensures { Answers order.now bytes O.written O.faults out.old out.new result }
 {
@@ -37,7 +43,7 @@ fn write_answer<O: Sink>(alloc: Global, order: &Order, bytes: Items<u8>, out: &m
         text,
         status,
         rounds,
-    } = match answer_of(alloc, order, bytes) {
+    } = match answer_of(rt, alloc, order, bytes, gate) {
         Ok(answer) => answer,
         Err(AnswerFault::Refused(refusal)) => return Verdict::Refused(refusal),
         Err(AnswerFault::Memory) => return Verdict::NoMemory,
@@ -49,15 +55,22 @@ fn write_answer<O: Sink>(alloc: Global, order: &Order, bytes: Items<u8>, out: &m
 }
 
 /// Reads what an order reads, and writes its answer.
-fn perform<S: Source, O: Sink>(alloc: Global, order: &Order, input: &mut S, out: &mut O) -> Verdict
+fn perform<R: Threads + Sync, S: Source, O: Sink, G: Gate + Sync>(
+    rt: &R,
+    alloc: Global,
+    order: &Order,
+    input: &mut S,
+    out: &mut O,
+    gate: &G,
+) -> Verdict
     requires { IsOffered order.now.command }
     ensures { Comes order.now (ends S.left S.faults O.written O.faults input.old input.new out.old out.new) result }
 {
     let Some(reading) = reads(order) else {
-        return write_answer(alloc, order, Items::new(alloc), out);
+        return write_answer(rt, alloc, order, Items::new(alloc), out, gate);
     };
     match read_all(alloc, input, reading.limit()) {
-        Ok(bytes) => write_answer(alloc, order, bytes, out),
+        Ok(bytes) => write_answer(rt, alloc, order, bytes, out, gate),
         Err(ReadFault::Fault) => Verdict::InputFault,
         Err(ReadFault::TooLong) => Verdict::TooLong(reading),
         Err(ReadFault::Memory) => Verdict::NoMemory,
@@ -65,16 +78,18 @@ fn perform<S: Source, O: Sink>(alloc: Global, order: &Order, input: &mut S, out:
 }
 
 /// Reads the words, and does what they ask for.
-fn judge<S: Source, O: Sink>(
+fn judge<R: Threads + Sync, S: Source, O: Sink, G: Gate + Sync>(
+    rt: &R,
     alloc: Global,
     words: &[Items<u8>],
     input: &mut S,
     out: &mut O,
+    gate: &G,
 ) -> Verdict
     ensures { Judged (order_of false words.now) (ends S.left S.faults O.written O.faults input.old input.new out.old out.new) result }
 {
     match read_words(words, false) {
-        Ok(order) => perform(alloc, &order, input, out),
+        Ok(order) => perform(rt, alloc, &order, input, out, gate),
         Err(refusal) => Verdict::Words(refusal),
     }
 }
@@ -85,15 +100,18 @@ fn judge<S: Source, O: Sink>(
 /// The status says what the call came to, and with each but those of an ending one line is tried on
 /// `err`. The order is fixed: the words, the reading, the answer, the writing; so nothing is written
 /// before the whole answer is there. Want of memory may come at any point between the words and the
-/// writing. The runtime and the gate serve the workers to come.
-pub fn simulate<R: Threads + Sync, S: Source, O: Sink, E: Sink, G: Gate>(
-    _rt: &R,
+/// writing.
+///
+/// `run` and `gen` are done by at most as many workers as the plan says, which return before the run
+/// ends; each passes the gate before each of its claims.
+pub fn simulate<R: Threads + Sync, S: Source, O: Sink, E: Sink, G: Gate + Sync>(
+    rt: &R,
     alloc: Global,
     words: &[Items<u8>],
     input: &mut S,
     out: &mut O,
     err: &mut E,
-    _gate: &G,
+    gate: &G,
 ) -> Ran
     // All in one: the call came to a verdict, which gives its answer and its line.
     ensures judged { (v : Verdict) × (result ≡ ran_for v)
@@ -141,10 +159,10 @@ pub fn simulate<R: Threads + Sync, S: Source, O: Sink, E: Sink, G: Gate>(
         → S.left input.old ≡ Some bytes → Fits (reads o) bytes → answer o bytes ≡ Ok a
         → result.status ≢ Status.InputFault → result.status ≢ Status.OutputFault → IsEndingOrMemory result.status }
 
-    // No command closes a round.
-    ensures closed_rounds { result.rounds ≡ no_rounds }
+    // `run` and `gen` close a round for each moment of the run at which somebody is scheduled; else none is.
+    ensures closed_rounds { ClosesRounds (order_of false words.now) (S.left input.old) result }
 {
-    let verdict = judge(alloc, words, input, out);
+    let verdict = judge(rt, alloc, words, input, out, gate);
     verdict.tell(err);
     verdict.ran()
 }

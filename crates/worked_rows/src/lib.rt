@@ -4,12 +4,16 @@
 #![tactic(auto)]
 
 #[cfg(test)]
+mod calls;
+#[cfg(test)]
 mod depot_tests;
 #[cfg(test)]
-mod road_tests;
+mod gate_tests;
+#[cfg(test)]
+mod generated_tests;
 #[cfg(test)]
 mod rows;
 #[cfg(test)]
-mod simulate_tests;
+mod run_tests;
 #[cfg(test)]
-mod urgent_tests;
+mod simulate_tests;

@@ -6,7 +6,7 @@ use Rattle.hex.specs.Hex.{encode_lower}
 use Rattle.sha2.specs.Sha256.{sha256}
 use Rattle.sim_base.specs.Endings.{status_of_ending}
 use Rattle.sim_base.specs.declared.status.Status.TheVariants as status
-use Rattle.quiescence.specs.Rounds.{no_rounds}
+use Rattle.quiescence.specs.Rounds.{RoundSums}
 use Rattle.sim_model.specs.Run.{results_of, run_of}
 use Rattle.sim_model.specs.declared.run.Results.{Results}
 use Rattle.sim_model.specs.declared.stage.Stage.{Stage}
@@ -16,6 +16,7 @@ use Rattle.scenario.specs.AnyActors.{any_meaning}
 use Rattle.scenario.specs.Generated.{generated}
 use Rattle.scenario.specs.ScenarioParts.{ScenarioParts}
 use Rattle.scenario.specs.declared.any_actor.AnyActor.{AnyActor}
+use Rattle.tick_advance.specs.RoundsOf.{rounds_of}
 use Rattle.sim_top.specs.declared.answer.Answer.{Answer}
 
 -- the lines of a run's text but its first and its last
@@ -31,13 +32,13 @@ summary actors text r =
     ++ end_line r.last r.ending r.dead_letters
 
 -- every run is over after its last moment, so the first case never comes
-abbrev pub summary_at : ScenarioParts → Stage AnyActor → Answer
-summary_at s (Going u) = record { text = []; status = status.NoMemory; rounds = no_rounds }
-summary_at s (Over e) = record {
+abbrev pub summary_at : ScenarioParts → RoundSums → Stage AnyActor → Answer
+summary_at s sums (Going u) = record { text = []; status = status.NoMemory; rounds = sums }
+summary_at s sums (Over e) = record {
   text = summary (length s.setup.actors) (text_of s.rules (results_of e)) (results_of e);
   status = status_of_ending e.ending;
-  rounds = no_rounds;
+  rounds = sums;
 }
 
 unfoldable pub gen_answer : (groups : ℕ) → Answer
-gen_answer groups = summary_at (generated groups) (run_of any_meaning (generated groups).setup)
+gen_answer groups = summary_at (generated groups) (rounds_of any_meaning (generated groups).setup) (run_of any_meaning (generated groups).setup)

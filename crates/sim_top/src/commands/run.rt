@@ -5,23 +5,32 @@ ghost use Rattle.sim_top.specs.Tasks.{Gives, answer_by, reads_scenario};
 
 use crate::answer::{Answer, AnswerFault};
 use crate::reading::read_scenario;
-use quiescence::Rounds;
+use agenda_wheel::WheelAgenda;
+use placement::Plan;
 use result_store::text;
-use sim_base::{Items, Status};
-use sim_model::plain_run;
+use scenario::Scenario;
+use sim_base::{Gate, Items, Status};
 use std::alloc::Global;
+use std::thread::Threads;
 
-/// The text of the run of the scenario that was read, and the status of its ending.
+/// The text of the run of the scenario that was read, the status of its ending, and its rounds.
 #[tactic(auto, unfolding(crate::specs::Commands::Run::run_answer))]
-pub(crate) fn reply(alloc: Global, bytes: Items<u8>) -> Result<Answer, AnswerFault>
+pub(crate) fn reply<R: Threads + Sync, G: Gate + Sync>(
+    rt: &R,
+    alloc: Global,
+    bytes: Items<u8>,
+    plan: Plan,
+    gate: &G,
+) -> Result<Answer, AnswerFault>
     ensures value { Gives result (answer_by (reads_scenario run_answer) bytes) }
     ensures ending { IfOk result (λ a. IsEnding a.status) }
 {
-    let scenario = read_scenario(alloc, bytes)?;
-    let results = plain_run(alloc, &scenario.setup)?;
+    let Scenario { setup, rules, .. } = read_scenario(alloc, bytes)?;
+    let run = tick_advance::run::<_, _, WheelAgenda, _>(rt, alloc, setup, plan, gate)?;
+    let (results, rounds) = run;
     Ok(Answer {
-        text: text(alloc, &results, &scenario.rules)?,
+        text: text(alloc, &results, &rules)?,
         status: Status::of_ending(results.ending),
-        rounds: Rounds::new(),
+        rounds,
     })
 }

@@ -37,7 +37,11 @@ fn reserved_room_is_filled(rt: HostRuntime) -> Result<(), Fail> {
     assert_eq!(rt; items.as_slice(), [1, 7, 8, 9].as_slice());
     items.reverse_from(2);
     assert_eq!(rt; items.len(), 4);
-    assert_eq!(rt; items.into_items().as_slice(), [1, 7, 9, 8].as_slice());
+    assert_eq!(rt; items.as_slice(), [1, 7, 9, 8].as_slice());
+    items.clear();
+    assert_eq!(rt; items.len(), 0);
+    items.add(5);
+    assert_eq!(rt; items.into_items().as_slice(), [5].as_slice());
     count_two::<Brand>(Blank::new(1));
     Ok(())
 }

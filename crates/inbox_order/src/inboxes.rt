@@ -77,16 +77,44 @@ impl Inboxes {
         ensures inboxes { OnOk result (AreInboxesOf self.new letters.now precedence.now) }
         ensures by_recipient { OnOk result (IsNonDecreasingBy (λ l. l.to.0) self.new) }
     {
-        let Inboxes {
-            letters: mut all,
-            index,
-        } = mem::replace(self, Inboxes::new(alloc));
-        all.clear();
+        let mut all = self.take_room(alloc);
         all.extend_from_slice(letters)?;
-        sort_by_recipient(&mut all)?;
-        order_groups(alloc, &mut all, precedence)?;
-        *self = Inboxes::indexed(index, all)?;
+        self.renew_with(alloc, all, precedence)
+    }
+
+    /// The room in which the letters stood; there are no inboxes then. It takes no memory.
+    pub fn take_room(&mut self, alloc: Global) -> Vec<Letter>
+        ensures none { self.new ≡ [] }
+        ensures empty { result.items ≡ [] }
+    {
+        let mut letters = mem::replace(&mut self.letters, Vec::new(alloc));
+        letters.clear();
+        self.index.clear();
+        letters
+    }
+
+    /// Makes the inboxes of letters that are handed over, as `of` does, without a copy of them, and with
+    /// their index in the room that is there. Err is want of memory; there may be no inboxes then.
+    pub fn renew_with(
+        &mut self,
+        alloc: Global,
+        letters: Vec<Letter>,
+        precedence: &Precedence<'_>,
+    ) -> Result<(), Memory>
+        ensures inboxes { OnOk result (AreInboxesOf self.new letters.items precedence.now) }
+        ensures by_recipient { OnOk result (IsNonDecreasingBy (λ l. l.to.0) self.new) }
+    {
+        let Inboxes { letters: _, index } = mem::replace(self, Inboxes::new(alloc));
+        *self = Inboxes::ordered(alloc, index, letters, precedence)?;
         Ok(())
+    }
+
+    /// The letters of all inboxes, by recipient, each inbox in its order.
+    pub fn as_slice(&self) -> &[Letter]
+        ensures letters { result.now ≡ self.now }
+        ensures by_recipient { IsNonDecreasingBy (λ l. l.to.0) self.now }
+    {
+        &self.letters
     }
 
     /// Those who have a letter, ascending. The letters lie by recipient, too.
@@ -124,6 +152,21 @@ impl Inboxes {
         let mut all = all_letters(alloc, parts)?;
         sort_by_recipient(&mut all)?;
         Inboxes::indexed(Index::new(alloc), all)
+    }
+
+    /// The inboxes that these letters make, with their index in the room of this one. Err is want of memory.
+    fn ordered(
+        alloc: Global,
+        index: Index,
+        mut letters: Vec<Letter>,
+        precedence: &Precedence<'_>,
+    ) -> Result<Inboxes, Memory>
+        ensures inboxes { IfOk result (λ inboxes. AreInboxesOf inboxes letters.items precedence.now) }
+        ensures by_recipient { IfOk result (λ inboxes. IsNonDecreasingBy (λ l. l.to.0) inboxes) }
+    {
+        sort_by_recipient(&mut letters)?;
+        order_groups(alloc, &mut letters, precedence)?;
+        Inboxes::indexed(index, letters)
     }
 
     /// The inboxes of letters that stand by recipient, with their index in the room of this one.

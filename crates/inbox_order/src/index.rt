@@ -29,6 +29,15 @@ impl Index {
         }
     }
 
+    /// Empties the index, and keeps its room.
+    pub fn clear(&mut self)
+        ensures recipients { self.new.recipients.items ≡ [] }
+        ensures starts { self.new.starts.items ≡ [] }
+    {
+        self.recipients.clear();
+        self.starts.clear();
+    }
+
     /// The index of letters that stand by recipient, in the room of this one. Err is want of memory.
     pub fn renewed(self, letters: &[Letter]) -> Result<Index, Memory>
         requires { IsNonDecreasingBy (λ l. l.to.0) letters.now }

@@ -149,7 +149,7 @@ fn letters_are_sorted_out_by_recipient(rt: HostRuntime) -> Result<(), Memory> {
     let mut all = letters(rt.alloc(), 200_000, &[(8, 0)])?;
     all.append(&mut letters(rt.alloc(), 9, ARRIVED)?)?;
     all.push(letter(4, 9, 1))?;
-    let inboxes = Inboxes::of(rt.alloc(), &all, &plain(5))?;
+    let mut inboxes = Inboxes::of(rt.alloc(), &all, &plain(5))?;
     let recipients = [ActorId(4), ActorId(9), ActorId(200_000)];
     assert_eq!(rt; inboxes.recipients(), recipients.as_slice());
     expect(&rt, inboxes.inbox(ActorId(4)), 4, &[(9, 1)]);
@@ -157,6 +157,11 @@ fn letters_are_sorted_out_by_recipient(rt: HostRuntime) -> Result<(), Memory> {
     expect(&rt, inboxes.inbox(ActorId(200_000)), 200_000, &[(8, 0)]);
     expect(&rt, inboxes.inbox(ActorId(5)), 5, &[]);
     expect(&rt, inboxes.inbox(ActorId(u32::MAX)), u32::MAX, &[]);
+    let mut room = inboxes.take_room(rt.alloc());
+    assert!(rt; inboxes.recipients().is_empty());
+    room.push(letter(7, 9, 2))?;
+    inboxes.renew_with(rt.alloc(), room, &plain(5))?;
+    expect(&rt, inboxes.as_slice(), 7, &[(9, 2)]);
     Ok(())
 }
 

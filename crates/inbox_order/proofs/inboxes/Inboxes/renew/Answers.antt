@@ -1,14 +1,7 @@
-use Rattle.std.proofs.Common.{◌≡◌, ◌∙◌, List, ap}
-use Rattle.std.proofs.lemmas.List.{with_items_is}
-use Rattle.actor_trait.specs.declared.letter.Letter.{Letter}
-use Rattle.actor_trait.specs.InboxOrder.{in_order}
-use Rattle.inbox_order.specs.Inboxes.{inbox_of}
+use Rattle.std.proofs.Common.{◌≡◌}
 use Rattle.inbox_order.proofs.inboxes.Inboxes.renew.Goals as goal
 
 pub returns-clause-inboxes : goal.returns-clause-inboxes
-returns-clause-inboxes c to =
-    let copied : c.extend_from_slice.new.self.items ≡ c.args.letters.now = rw c.clear.ensures.items at c.in_ok-extend_from_slice.ensures.items in
-    ap (λ (y : List Letter). inbox_of y to)
-    (c.in_ok-self.ensures.same ∙ with_items_is c.sort_by_recipient.new.letters c.order_groups.new.letters (c.order_groups.auto.letters ∙ c.deref_mut.ensures.len))
-    ∙ c.in_ok-order_groups.ensures.inboxes to
-    ∙ ap (in_order c.args.precedence.now) (rw c.deref_mut.ensures.value (c.in_ok-sort_by_recipient.ensures.same to ∙ rw copied))
+returns-clause-inboxes c =
+    let copied : c.extend_from_slice.new.self.items ≡ c.args.letters.now = rw c.take_room-all.ensures.empty at c.in_ok-extend_from_slice.ensures.items in
+    rw (← copied) c.renew_with.ensures.inboxes

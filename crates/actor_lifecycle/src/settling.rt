@@ -31,7 +31,11 @@ pub fn settle<A: Actor + Drop>(
         Err(Fault { actor, code }) => return Ok(Settled::Faulted { actor, code }),
     };
     let retired = retired(alloc, reports.as_slice())?;
-    let (kept, born) = bear_all(alloc, reports, next_id, count)?;
+    let (kept, born) = if count == 0 {
+        (reports, Items::new(alloc))
+    } else {
+        bear_all(alloc, reports, next_id, count)?
+    };
     let letters = birth_letters(alloc, born.as_slice())?;
     Ok(Settled::Settled {
         kept,

@@ -1,13 +1,12 @@
 -- One pair more.
-use Rattle.std.proofs.Common.{◌≡◌, ◌≢◌, ◌⊎◌, ℕ, zero, suc, ◌+◌, ◌-◌, ◌<◌, ◌≤◌, Bool, true, false, cond, nat_eq, nat_lt, count_by, List, [], ◌∷◌}
-use Rattle.std.proofs.Common.{map, length, get_or, set, Option, Some, None, refl, sym, ap, ◌∙◌, subst, inl, inr, arith, length-set}
+use Rattle.std.proofs.Common.{◌≡◌, ◌≢◌, ◌⊎◌, ℕ, zero, suc, ◌+◌, ◌<◌, cond, count_by, List, [], ◌∷◌}
+use Rattle.std.proofs.Common.{length, get_or, set, Option, Some, None, refl, sym, ap, ◌∙◌, subst, inl, inr, arith}
 use Rattle.std.proofs.lemmas.Bool.{cases_eq}
-use Rattle.std.proofs.lemmas.Bool.Decides.{nat_tests}
 use Rattle.std.proofs.lemmas.Option.{none-some, same_Some}
 use Rattle.std.proofs.lemmas.List.{get_or-set_same, get_or-set_other, length-map}
 use Rattle.std.proofs.lemmas.List.Sums.{sum_by-cons, sum_by-set}
 use Rattle.agenda.specs.declared.due.Due.{Due}
-use Rattle.agenda.specs.Dues.{add_due, Rises}
+use Rattle.agenda.specs.Dues.{add_due}
 use Rattle.agenda.proofs.Order.{rises_add}
 use Rattle.agenda_wheel.specs.Kept.{is_free}
 use Rattle.agenda_wheel.specs.Slots.{sorted, Distinct}

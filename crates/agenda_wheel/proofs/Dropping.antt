@@ -1,6 +1,6 @@
 -- One pair goes.
-use Rattle.std.proofs.Common.{◌≡◌, ◌≢◌, ◌⊎◌, ℕ, zero, suc, ◌+◌, ◌-◌, ◌<◌, ◌≤◌, Bool, true, false, not, cond, nat_eq, nat_lt, count_by, List, []}
-use Rattle.std.proofs.Common.{◌∷◌, map, length, get_or, set, Option, Some, None, refl, sym, ap, ◌∙◌, subst, inl, inr, arith, length-set}
+use Rattle.std.proofs.Common.{◌≡◌, ◌≢◌, ◌⊎◌, ℕ, suc, ◌+◌, ◌<◌, ◌≤◌, Bool, true, false, not, cond, nat_eq, nat_lt, count_by, List, []}
+use Rattle.std.proofs.Common.{◌∷◌, map, length, get_or, set, Option, Some, None, refl, sym, ap, ◌∙◌, subst, inl, inr, arith}
 use Rattle.std.specs.List.{filter}
 use Rattle.std.proofs.lemmas.Bool.{cases_eq}
 use Rattle.std.proofs.lemmas.Bool.Decides.{nat_tests}
@@ -10,10 +10,10 @@ use Rattle.std.proofs.lemmas.List.Sums.{sum_by-set}
 use Rattle.agenda_wheel.specs.Kept.{is_free}
 use Rattle.sim_base.specs.declared.ids.ActorId.{ActorId}
 use Rattle.agenda.specs.declared.due.Due.{Due}
-use Rattle.agenda.specs.Dues.{comes_before, add_due, Rises, without_actor, ticks_of}
+use Rattle.agenda.specs.Dues.{comes_before, add_due, without_actor, ticks_of}
 use Rattle.agenda.proofs.Order.{rises_add, rises_filter}
 use Rattle.agenda_wheel.specs.Slots.{sorted, Distinct}
-use Rattle.agenda_wheel.specs.Nodes.{nil, head_of}
+use Rattle.agenda_wheel.specs.Nodes.{head_of}
 use Rattle.agenda_wheel.specs.Wheel.{pair_at, list_for, actor_color, Sound}
 use Rattle.agenda_wheel.specs.declared.links.Node.{Node}
 use Rattle.agenda_wheel.proofs.Linking.{some_head}

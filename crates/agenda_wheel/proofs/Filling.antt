@@ -1,24 +1,22 @@
 -- A free node gets a pair: both linkings stay sound, and one pair is there.
-use Rattle.std.proofs.Common.{◌≡◌, ◌≢◌, ◌⊎◌, ℕ, zero, suc, [], ◌∷◌, ◌+◌, ◌-◌, ◌<◌, ◌≤◌, ◌%◌, Bool, true, false, cond, nat_eq, nat_lt, List, map}
-use Rattle.std.proofs.Common.{length, get_or, set, Option, Some, None, refl, sym, ap, ◌∙◌, subst, inl, inr, arith, length-set}
+use Rattle.std.proofs.Common.{◌≡◌, ◌≢◌, ℕ, ◌+◌, ◌<◌, cond, nat_eq, nat_lt, List, map}
+use Rattle.std.proofs.Common.{length, get_or, set, Option, Some, None, refl, sym, ap, ◌∙◌, inl, inr, arith, length-set}
 use Rattle.std.specs.Option.{option_map}
 use Rattle.std.proofs.lemmas.Bool.{cases_eq}
-use Rattle.std.proofs.lemmas.Bool.Decides.{nat_tests}
 use Rattle.std.proofs.lemmas.Option.{none-some, same_Some}
-use Rattle.std.proofs.lemmas.List.{get_or-set_same, get_or-set_other, get_or_past, set-get_or, map-set, set-set, length-map, ext_get_or}
+use Rattle.std.proofs.lemmas.List.{get_or-set_same, get_or-set_other, length-map, ext_get_or}
 use Rattle.agenda.specs.declared.due.Due.{Due}
-use Rattle.agenda_wheel.specs.Linked.{Linked, Cut, Put}
-use Rattle.agenda_wheel.specs.Nodes.{nil, no_node, node_of, link_of, with_link, with_next, with_prev, next_of, prev_of, head_of, put_next}
-use Rattle.agenda_wheel.specs.Nodes.{put_prev, cut_nodes, cut_heads, put_nodes, put_heads}
+use Rattle.agenda_wheel.specs.Linked.{Linked}
+use Rattle.agenda_wheel.specs.Nodes.{nil, no_node, node_of, link_of, next_of, prev_of, head_of}
+use Rattle.agenda_wheel.specs.Nodes.{cut_nodes, put_heads}
 use Rattle.agenda_wheel.specs.Wheel.{pair_at, bucket, tick_color, list_for, actor_color, Sound, paired, in_bucket, rest_actors, used_nodes}
 use Rattle.agenda_wheel.specs.Wheel.{used_actors}
-use Rattle.agenda_wheel.specs.declared.links.Link.{Link}
 use Rattle.agenda_wheel.specs.declared.links.Node.{Node}
 use Rattle.agenda_wheel.specs.declared.links.Side.{Side}
 use Rattle.agenda_wheel.specs.declared.links.Side.TheVariants as side
 use Rattle.agenda_wheel.proofs.Linking.{cut_linked, put_linked, relink}
-use Rattle.agenda_wheel.proofs.Splicing.{kept_by, cut_is, put_is, cut_other, put_other, Plain, cut_plain, put_plain}
-use Rattle.agenda_wheel.proofs.Freeing.{plain_pair, tick_not_actor, actor_not_tick, lt_true, pick_same, pick_other, length_either, pair_in}
+use Rattle.agenda_wheel.proofs.Splicing.{kept_by, cut_is, put_is, cut_other, put_other, cut_plain, put_plain}
+use Rattle.agenda_wheel.proofs.Freeing.{plain_pair, tick_not_actor, actor_not_tick, lt_true, pick_same, pick_other, length_either}
 use Rattle.agenda_wheel.proofs.Freeing.{tick_in, actor_in, map_get}
 
 next_paired : (s : Side) (d : Due) (n : Node) → (link_of s (record n { pair = Some d })).next ≡ (link_of s n).next

@@ -1,21 +1,19 @@
 -- The least tick of an ascending list of pairs, and what an edit does to the least of each bucket.
-use Rattle.std.proofs.Common.{◌≡◌, ◌≢◌, ◌⊎◌, ℕ, zero, suc, ◌+◌, ◌-◌, ◌<◌, ◌≤◌, ◌%◌, Bool, true, false, not, cond, nat_eq, nat_lt, min, List, []}
-use Rattle.std.proofs.Common.{◌∷◌, length, get_or, set, Option, Some, None, refl, sym, ap, ◌∙◌, subst, inl, inr, arith, length-set}
-use Rattle.std.specs.List.{filter}
-use Rattle.std.specs.Option.{option_map}
+use Rattle.std.proofs.Common.{◌≡◌, ◌≢◌, ℕ, ◌+◌, ◌-◌, ◌<◌, ◌≤◌, ◌%◌, true, false, not, nat_eq, min, List, []}
+use Rattle.std.proofs.Common.{◌∷◌, length, get_or, set, Option, Some, None, refl, sym, ap, ◌∙◌, inl, inr, arith, length-set}
 use Rattle.std.proofs.lemmas.Bool.{cases_eq}
 use Rattle.std.proofs.lemmas.Bool.Decides.{nat_tests}
 use Rattle.std.proofs.lemmas.Option.{none-some, same_Some}
 use Rattle.std.proofs.lemmas.List.{get_or-set_same, get_or-set_other}
 use Rattle.agenda.specs.declared.due.Due.{Due}
-use Rattle.agenda.specs.Dues.{comes_before, add_due, without_tick, without_actor, least, IsBelow, Rises}
+use Rattle.agenda.specs.Dues.{comes_before, add_due, without_tick, least, Rises}
 use Rattle.agenda.proofs.Order.{rises_add, rises_filter}
 use Rattle.agenda_wheel.specs.Kept.{in_bucket, KeepsLeasts}
 use Rattle.agenda_wheel.specs.Seen.{lesser, IsLeastBelow}
 use Rattle.agenda_wheel.specs.Slots.{sorted, Distinct}
 use Rattle.agenda_wheel.specs.Wheel.{bucket}
 use Rattle.agenda_wheel.proofs.Dropping.{left, has_was, has_still}
-use Rattle.agenda_wheel.proofs.Sets.{Has, same_sets, below_has, has_add, add_new, add_old, has_filter, filter_has, rises_sorted, has_slot}
+use Rattle.agenda_wheel.proofs.Sets.{Has, same_sets, below_has, has_add, add_new, add_old, has_filter, filter_has, rises_sorted}
 use Rattle.agenda_wheel.proofs.Sets.{slot_has}
 
 not_later : (x y : Due) → comes_before x y ≡ true → x.tick ≤ y.tick

@@ -1,19 +1,19 @@
 -- One free node more, and longer heads.
-use Rattle.std.proofs.Common.{◌≡◌, ◌≢◌, ◌⊎◌, ℕ, zero, suc, ◌+◌, ◌-◌, ◌<◌, ◌≤◌, Bool, true, false, cond, nat_eq, nat_lt, count_by, replicate, List}
-use Rattle.std.proofs.Common.{[], ◌∷◌, ◌++◌, map, length, get_or, set, Option, Some, None, refl, sym, ap, ◌∙◌, subst, inl, inr, arith, length-set}
+use Rattle.std.proofs.Common.{◌≡◌, ◌≢◌, ℕ, zero, suc, ◌+◌, ◌-◌, ◌<◌, ◌≤◌, false, cond, nat_lt, count_by, replicate, List}
+use Rattle.std.proofs.Common.{[], ◌∷◌, ◌++◌, length, get_or, Option, Some, None, refl, sym, ap, ◌∙◌, inl, inr, arith, length-set}
 use Rattle.std.proofs.Common.{length-append}
 use Rattle.std.specs.Option.{option_map}
 use Rattle.std.proofs.lemmas.Bool.{cases_eq}
 use Rattle.std.proofs.lemmas.Bool.Decides.{nat_tests}
 use Rattle.std.proofs.lemmas.Option.{none-some}
-use Rattle.std.proofs.lemmas.List.{get_or-set_same, get_or-set_other, get_or_past, get_or-replicate, length-map, length-replicate, map-append}
+use Rattle.std.proofs.lemmas.List.{get_or_past, get_or-replicate, length-map, length-replicate, map-append}
 use Rattle.std.proofs.lemmas.List.{ext_get_or}
 use Rattle.std.proofs.lemmas.List.Sums.{sum_by-cons}
 use Rattle.agenda.specs.declared.due.Due.{Due}
 use Rattle.agenda.specs.Dues.{add_due}
 use Rattle.agenda_wheel.specs.Kept.{is_free}
 use Rattle.agenda_wheel.specs.Linked.{Linked}
-use Rattle.agenda_wheel.specs.Nodes.{nil, no_node, node_of, link_of, next_of, prev_of, head_of, put_nodes, put_heads}
+use Rattle.agenda_wheel.specs.Nodes.{nil, no_node, node_of, next_of, prev_of, head_of, put_nodes, put_heads}
 use Rattle.agenda_wheel.specs.Slots.{sorted, Distinct}
 use Rattle.agenda_wheel.specs.Wheel.{pair_at, pairs_of, bucket, tick_color, list_for, actor_color, Sound}
 use Rattle.agenda_wheel.specs.declared.links.Node.{Node}

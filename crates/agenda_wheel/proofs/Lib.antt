@@ -15,3 +15,4 @@ pub mod Looking
 pub mod Taking
 pub mod Growing
 pub mod Whole
+pub mod Groups

@@ -1,5 +1,5 @@
 -- The loops that walk along a bucket, or along the list of an actor, and change nothing.
-use Rattle.std.proofs.Common.{◌≡◌, ◌≢◌, ◌⊎◌, ℕ, zero, suc, ◌+◌, ◌-◌, ◌<◌, ◌≤◌, ◌%◌, Bool, true, false, not, cond, nat_eq, min, List, [], ◌∷◌}
+use Rattle.std.proofs.Common.{◌≡◌, ◌≢◌, ℕ, ◌+◌, ◌-◌, ◌<◌, ◌≤◌, ◌%◌, Bool, true, false, cond, nat_eq, min, List, [], ◌∷◌}
 use Rattle.std.proofs.Common.{◌++◌, map, length, get_or, nat_cmp, Option, Some, None, refl, sym, ap, ◌∙◌, subst, inl, inr, arith}
 use Rattle.std.specs.List.{filter}
 use Rattle.std.specs.List.Sorted.{IsPermutation, IsSorted}
@@ -20,9 +20,9 @@ use Rattle.agenda_wheel.specs.Wheel.{bucket, pair_at, pairs_of, tick_color, acto
 use Rattle.agenda_wheel.specs.declared.links.Node.{Node}
 use Rattle.agenda_wheel.specs.declared.links.Side.TheVariants as side
 use Rattle.agenda_wheel.proofs.Dropping.{color_is, suc_same}
-use Rattle.agenda_wheel.proofs.Firsts.{least_none, none_least, least_at, in_has, has_in, in_rises}
+use Rattle.agenda_wheel.proofs.Firsts.{none_least, least_at, in_has, has_in, in_rises}
 use Rattle.agenda_wheel.proofs.Freeing.{tick_in as tick_within, actor_in, map_get}
-use Rattle.agenda_wheel.proofs.Seeing.{cons_some, seen, seen_past, Ahead, ahead_map, ahead_step, ahead_start}
+use Rattle.agenda_wheel.proofs.Seeing.{cons_some, seen_past, Ahead, ahead_map, ahead_step, ahead_start}
 use Rattle.agenda_wheel.proofs.Sets.{Has, rises_sorted}
 use Rattle.agenda_wheel.proofs.Totals.{total, total_append, total_map, total_permuted, length_filter, is, IsLow, Ascends, same_counts, ascends_by}
 

@@ -1,11 +1,10 @@
 -- What a walk along a list sees is what the list has.
-use Rattle.std.proofs.Common.{◌≡◌, ◌≢◌, ◌⊎◌, ℕ, zero, suc, ◌+◌, ◌-◌, ◌<◌, ◌≤◌, Bool, true, false, nat_lt, List, [], ◌∷◌, length, get_or, set}
+use Rattle.std.proofs.Common.{◌≡◌, ◌≢◌, ℕ, zero, suc, ◌+◌, ◌-◌, ◌<◌, ◌≤◌, List, [], ◌∷◌, length, get_or, set}
 use Rattle.std.proofs.Common.{Option, Some, None, refl, sym, ap, ◌∙◌, subst, inl, inr, arith}
 use Rattle.std.proofs.lemmas.Bool.{cases_eq}
 use Rattle.std.proofs.lemmas.Option.{none-some}
 use Rattle.std.proofs.lemmas.List.{get_or-set_same, get_or-set_other, set_past, get_or_past, set-get_or}
 use Rattle.agenda.specs.declared.due.Due.{Due}
-use Rattle.agenda.specs.Dues.{add_due}
 use Rattle.agenda_wheel.specs.Linked.{Linked}
 use Rattle.agenda_wheel.specs.Slots.{sorted, Distinct}
 use Rattle.agenda_wheel.proofs.Sets.{Has, has_slot}

@@ -1,15 +1,13 @@
 -- An ascending list of pairs is fixed by what it has.
-use Rattle.std.proofs.Common.{◌≡◌, ◌≢◌, ◌⊎◌, ℕ, zero, suc, ◌+◌, ◌<◌, ◌≤◌, Bool, true, false, not, cond, nat_eq, nat_lt, List, [], ◌∷◌, length}
-use Rattle.std.proofs.Common.{get_or, set, Option, Some, None, refl, sym, ap, ◌∙◌, subst, inl, inr, arith}
+use Rattle.std.proofs.Common.{◌≡◌, ◌⊎◌, ℕ, zero, suc, ◌<◌, Bool, true, false, cond, List, [], ◌∷◌, length}
+use Rattle.std.proofs.Common.{get_or, Option, Some, None, refl, sym, ap, ◌∙◌, subst, inl, inr, arith}
 use Rattle.std.specs.List.{filter}
-use Rattle.std.proofs.lemmas.Bool.{cases_eq}
 use Rattle.std.proofs.lemmas.Bool.Decides.{nat_tests}
 use Rattle.std.proofs.lemmas.Option.{none-some, same_Some}
-use Rattle.std.proofs.lemmas.List.{get_or-set_same, get_or-set_other, get_or_past}
 use Rattle.agenda.specs.declared.due.Due.{Due}
 use Rattle.agenda.specs.Dues.{comes_before, add_due, IsBelow, Rises}
-use Rattle.agenda.proofs.Order.{before_trans, rises_add, rises_filter}
-use Rattle.agenda_wheel.specs.Slots.{sorted, Distinct}
+use Rattle.agenda.proofs.Order.{before_trans, rises_add}
+use Rattle.agenda_wheel.specs.Slots.{sorted}
 
 abbrev pub Has : Due → List Due → Type 0
 Has y [] = ⊥

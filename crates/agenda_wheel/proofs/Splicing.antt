@@ -1,10 +1,10 @@
 -- What the writes in the vector do to the links, for either side.
-use Rattle.std.proofs.Common.{◌≡◌, ◌≢◌, ◌⊎◌, ℕ, ◌+◌, ◌-◌, ◌<◌, ◌≤◌, ◌^◌, Bool, true, false, cond, nat_eq, List, length, get_or, set, refl, sym}
-use Rattle.std.proofs.Common.{ap, ◌∙◌, subst, inl, inr, arith, length-set}
+use Rattle.std.proofs.Common.{◌≡◌, ◌≢◌, ◌⊎◌, ℕ, ◌-◌, ◌<◌, cond, nat_eq, List, length, get_or, set, refl, sym}
+use Rattle.std.proofs.Common.{ap, ◌∙◌, inl, inr, arith, length-set}
 use Rattle.std.proofs.lemmas.Bool.{cases_eq}
 use Rattle.std.proofs.lemmas.Bool.Decides.{nat_tests}
 use Rattle.std.proofs.lemmas.List.{get_or-set_same, get_or-set_other, set_past}
-use Rattle.agenda_wheel.specs.Linked.{Linked, Cut, Put}
+use Rattle.agenda_wheel.specs.Linked.{Cut, Put}
 use Rattle.agenda_wheel.specs.Nodes.{nil, no_node, node_of, link_of, with_link, with_next, with_prev, next_of, prev_of, head_of, put_next}
 use Rattle.agenda_wheel.specs.Nodes.{put_prev, cut_nodes, cut_heads, put_nodes, put_heads}
 use Rattle.agenda_wheel.specs.declared.links.Link.{Link}

@@ -1,12 +1,11 @@
 -- A walk along a bucket that takes the pairs of a tick out of it.
-use Rattle.std.proofs.Common.{◌≡◌, ◌≢◌, ◌⊎◌, ℕ, zero, suc, ◌+◌, ◌-◌, ◌<◌, ◌≤◌, ◌%◌, Bool, true, false, not, cond, nat_eq, count_by, List, [], ◌∷◌}
+use Rattle.std.proofs.Common.{◌≡◌, ◌≢◌, ℕ, ◌+◌, ◌-◌, ◌<◌, ◌≤◌, ◌%◌, Bool, true, false, not, cond, nat_eq, count_by, List, [], ◌∷◌}
 use Rattle.std.proofs.Common.{◌++◌, map, length, take, drop, get_or, set, nat_cmp, Option, Some, None, refl, sym, ap, ◌∙◌, subst, inl, inr, arith}
 use Rattle.std.specs.List.{filter}
 use Rattle.std.specs.List.Sorted.{IsPermutation, IsSortedByKey}
 use Rattle.std.specs.Option.{option_map}
 use Rattle.std.proofs.lemmas.Bool.{cases_eq}
 use Rattle.std.proofs.lemmas.Bool.Decides.{nat_tests}
-use Rattle.std.proofs.lemmas.Option.{none-some}
 use Rattle.std.proofs.lemmas.List.{get_or-set_other, length-map, append_assoc, take-append-drop}
 use Rattle.std.proofs.lemmas.List.Sorted.{IsNonDecreasingBy-from_sort}
 use Rattle.sim_base.specs.declared.ids.ActorId.{ActorId}
@@ -25,7 +24,6 @@ use Rattle.agenda_wheel.proofs.Freeing.{map_get}
 use Rattle.agenda_wheel.proofs.Looking.{Fair, tick_ahead, tick_past, nothing_ahead, one_ahead, due_length, counts_tick, total_filter, ids}
 use Rattle.agenda_wheel.proofs.Looking.{ids_rise, same_ids}
 use Rattle.agenda_wheel.proofs.Seeing.{cons_some, Ahead, ahead_map, ahead_cut}
-use Rattle.agenda_wheel.proofs.Sets.{rises_sorted}
 use Rattle.agenda_wheel.proofs.Totals.{total, total_map, total_permuted, is, same_counts, ascends_by}
 
 -- 1 for the pair of the tick and of the actor

@@ -1,12 +1,12 @@
 -- What an agenda is after each of its calls.
-use Rattle.std.proofs.Common.{◌≡◌, ◌≢◌, ◌⊎◌, ℕ, ◌+◌, ◌-◌, ◌<◌, ◌≤◌, ◌%◌, Bool, true, false, not, min, nat_eq, count_by, replicate, List, []}
+use Rattle.std.proofs.Common.{◌≡◌, ◌≢◌, ℕ, ◌+◌, ◌≤◌, ◌%◌, Bool, true, not, min, nat_eq, count_by, replicate, List, []}
 use Rattle.std.proofs.Common.{length, get_or, Option, Some, None, refl, sym, ap, ◌∙◌, subst, inl, inr, arith}
 use Rattle.std.specs.List.{filter}
 use Rattle.std.proofs.lemmas.Bool.Decides.{nat_tests}
 use Rattle.std.proofs.lemmas.List.{get_or-replicate, length-replicate}
 use Rattle.agenda.specs.declared.due.Due.{Due}
-use Rattle.agenda.specs.Dues.{add_due, without_tick, without_actor, least, Rises}
-use Rattle.agenda_wheel.specs.Kept.{is_free, in_bucket, KeepsLeasts, IsWhole}
+use Rattle.agenda.specs.Dues.{add_due, least}
+use Rattle.agenda_wheel.specs.Kept.{is_free, KeepsLeasts, IsWhole}
 use Rattle.agenda_wheel.specs.Nodes.{nil}
 use Rattle.agenda_wheel.specs.Seen.{IsLeastBelow}
 use Rattle.agenda_wheel.specs.Slots.{sorted, Distinct}

@@ -4,3 +4,4 @@ pub mod Wheel
 pub mod Slots
 pub mod Kept
 pub mod Seen
+pub mod Groups

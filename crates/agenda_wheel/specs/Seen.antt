@@ -1,5 +1,5 @@
 -- What a walk takes from one node.
-use Rattle.std.specs.Prelude.{◌≡◌, ℕ, ◌<◌, ◌≤◌, Bool, true, false, cond, nat_eq, min, List, [], ◌∷◌, slice_index_or, Option, Some, None}
+use Rattle.std.specs.Prelude.{◌≡◌, ℕ, ◌<◌, ◌≤◌, Bool, false, cond, nat_eq, min, List, [], ◌∷◌, slice_index_or, Option, Some, None}
 use Rattle.sim_base.specs.declared.ids.ActorId.{ActorId}
 use Rattle.agenda.specs.declared.due.Due.{Due}
 
@@ -28,8 +28,11 @@ lesser None o = o
 lesser (Some t) None = Some t
 lesser (Some t) (Some u) = Some (min t u)
 
--- the least of the first n numbers
+-- the least of the first n of a row of numbers
+abbrev pub LeastOf : (ℕ → Option ℕ) → ℕ → Option ℕ → Type 0
+LeastOf f n None = (k : ℕ) → k < n → f k ≡ None
+LeastOf f n (Some t) = ((k : ℕ) × (k < n) × (f k ≡ Some t)) × ((k u : ℕ) → k < n → f k ≡ Some u → t ≤ u)
+
+-- the least of the first n numbers of a list
 abbrev pub IsLeastBelow : List (Option ℕ) → ℕ → Option ℕ → Type 0
-IsLeastBelow ls n None = (k : ℕ) → k < n → slice_index_or ls k None ≡ None
-IsLeastBelow ls n (Some t) = ((k : ℕ) × (k < n) × (slice_index_or ls k None ≡ Some t))
-    × ((k u : ℕ) → k < n → slice_index_or ls k None ≡ Some u → t ≤ u)
+IsLeastBelow ls n o = LeastOf (λ k. slice_index_or ls k None) n o

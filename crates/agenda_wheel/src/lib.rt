@@ -3,6 +3,7 @@
 
 mod growth;
 mod leasts;
+mod levels;
 mod links;
 mod moves;
 mod threads;

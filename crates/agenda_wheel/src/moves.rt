@@ -7,6 +7,7 @@ ghost use Rattle.agenda_wheel.specs.Slots.{sorted, Distinct};
 ghost use Rattle.agenda_wheel.specs.Wheel.{pair_at, pairs_of, tick_next, tick_prev, Sound};
 
 use crate::leasts::{leave, note, renew};
+use crate::levels::Leasts;
 use crate::links::{Node, fill, free};
 use crate::walks::{bucket_of, holds};
 use agenda::Due;
@@ -35,7 +36,7 @@ pub(crate) fn add_pair(
     nodes: &mut [Node],
     ticks: &mut [u32],
     actors: &mut [u32],
-    leasts: &mut [Option<u64>],
+    leasts: &mut Leasts,
     due: Due,
 ) -> bool
     requires sound { Sound nodes.old ticks.old actors.old }
@@ -62,7 +63,7 @@ fn remove(
     nodes: &mut [Node],
     ticks: &mut [u32],
     actors: &mut [u32],
-    leasts: &mut [Option<u64>],
+    leasts: &mut Leasts,
     at: u32,
     due: Due,
 )
@@ -84,7 +85,7 @@ fn unlink<L: Ledger>(
     nodes: &mut [Node],
     ticks: &mut [u32],
     actors: &mut [u32],
-    leasts: &mut [Option<u64>],
+    leasts: &mut Leasts,
     at: u32,
     due: Due,
     steps: &mut Steps<L>,
@@ -121,7 +122,7 @@ pub(crate) fn drop_each(
     nodes: &mut [Node],
     ticks: &mut [u32],
     actors: &mut [u32],
-    leasts: &mut [Option<u64>],
+    leasts: &mut Leasts,
     actor: ActorId,
 ) -> usize
     requires sound { Sound nodes.old ticks.old actors.old }
@@ -149,7 +150,7 @@ pub(crate) fn drop_all<L: Ledger>(
     nodes: &mut [Node],
     ticks: &mut [u32],
     actors: &mut [u32],
-    leasts: &mut [Option<u64>],
+    leasts: &mut Leasts,
     actor: ActorId,
     steps: &mut Steps<L>,
 ) -> usize
@@ -241,7 +242,7 @@ pub(crate) fn take_all(
     nodes: &mut [Node],
     ticks: &mut [u32],
     actors: &mut [u32],
-    leasts: &mut [Option<u64>],
+    leasts: &mut Leasts,
     tick: u64,
     into: &mut Roomy<ActorId>,
 ) -> usize

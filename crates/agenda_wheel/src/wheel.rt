@@ -2,7 +2,8 @@ ghost use Rattle.std.specs.Prelude.{◌≡◌, ◌≢◌, ◌+◌, ◌<◌, ◌�
 ghost use Rattle.agenda.specs.Dues.{add_due, without_actor, ticks_of as ticks_in};
 
 use crate::growth::{filled, grow_by, make_room};
-use crate::leasts::{is_least, least_of_all};
+use crate::leasts::is_least;
+use crate::levels::Leasts;
 use crate::links::{NIL, Node};
 use crate::moves::{add_pair, drop_all, drop_each, take_all};
 use crate::walks::{BUCKETS, count_at, ticks_from};
@@ -22,7 +23,7 @@ pub struct WheelAgenda {
     /// The first free node, and then the first node of each actor.
     actors: Vec<u32>,
     /// The least tick of each bucket.
-    leasts: Vec<Option<u64>>,
+    leasts: Leasts,
     /// No pair is below it.
     floor: u64,
     /// How many nodes are free.
@@ -37,7 +38,7 @@ impl Model for WheelAgenda {
 
     ghost view = { λ w. kept_by w.nodes.items w.actors.items w.spare };
 
-    ghost invariant = { λ w. IsWhole w.nodes.items w.ticks.items w.actors.items w.leasts.items w.floor w.spare };
+    ghost invariant = { λ w. IsWhole w.nodes.items w.ticks.items w.actors.items w.leasts w.floor w.spare };
 }
 
 // What no pair is below, once a tick's pairs are gone.
@@ -64,7 +65,7 @@ impl WheelAgenda {
                 self.nodes.as_mut_slice(),
                 self.ticks.as_mut_slice(),
                 self.actors.as_mut_slice(),
-                self.leasts.as_mut_slice(),
+                &mut self.leasts,
                 actor,
                 steps,
             );
@@ -84,7 +85,7 @@ impl Agenda for WheelAgenda {
             nodes: Vec::new(alloc),
             ticks: filled(alloc, NIL, BUCKETS as usize)?,
             actors: filled(alloc, NIL, 2)?,
-            leasts: filled(alloc, None, BUCKETS as usize)?,
+            leasts: Leasts::new(alloc)?,
             floor: u64::MAX,
             spare: 0,
         })
@@ -112,7 +113,7 @@ impl Agenda for WheelAgenda {
             self.nodes.as_mut_slice(),
             self.ticks.as_mut_slice(),
             self.actors.as_mut_slice(),
-            self.leasts.as_mut_slice(),
+            &mut self.leasts,
             Due { tick, actor },
         ) {
             self.spare -= 1;
@@ -128,7 +129,7 @@ impl Agenda for WheelAgenda {
             self.nodes.as_mut_slice(),
             self.ticks.as_mut_slice(),
             self.actors.as_mut_slice(),
-            self.leasts.as_mut_slice(),
+            &mut self.leasts,
             tick,
             into,
         );
@@ -141,7 +142,7 @@ impl Agenda for WheelAgenda {
                 self.nodes.as_mut_slice(),
                 self.ticks.as_mut_slice(),
                 self.actors.as_mut_slice(),
-                self.leasts.as_mut_slice(),
+                &mut self.leasts,
                 actor,
             );
         }
@@ -149,10 +150,10 @@ impl Agenda for WheelAgenda {
 
     // No pair is below the floor, so where its bucket has it none is less.
     fn least(&self) -> Option<u64> {
-        if is_least(self.leasts.as_slice(), self.floor) {
+        if is_least(&self.leasts, self.floor) {
             Some(self.floor)
         } else {
-            least_of_all(self.leasts.as_slice())
+            self.leasts.least()
         }
     }
 

@@ -1,7 +1,6 @@
-use Rattle.std.proofs.Common.{◌≡◌, ◌+◌, ◌++◌, ◌<◌, [], ◌∷◌, length, count_by, refl, ap, ◌∙◌, arith}
+use Rattle.std.proofs.Common.{◌≡◌, ◌++◌, [], ◌∷◌, length, ap, ◌∙◌, arith}
 use Rattle.std.proofs.lemmas.List.{with_items_is}
-use Rattle.agenda_wheel.specs.Kept.{is_free}
-use Rattle.agenda_wheel.specs.Nodes.{nil, no_node, put_nodes, put_heads}
+use Rattle.agenda_wheel.specs.Nodes.{no_node, put_nodes, put_heads}
 use Rattle.agenda_wheel.specs.declared.links.Side.TheVariants as side
 use Rattle.agenda_wheel.proofs.Growing.{grown_sound, grown_apart, grown_sorted, grown_free}
 use Rattle.agenda_wheel.proofs.growth.grow.Goals as goal

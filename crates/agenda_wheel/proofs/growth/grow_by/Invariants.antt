@@ -1,7 +1,7 @@
-use Rattle.std.proofs.Common.{◌≡◌, ◌+◌, ◌≤◌, ℕ, length, count_by, vec_len, vec_capacity}
+use Rattle.std.proofs.Common.{◌≡◌, ◌+◌, count_by, vec_len, vec_capacity}
 use Rattle.agenda_wheel.specs.Kept.{is_free}
 use Rattle.agenda_wheel.specs.Slots.{sorted, Distinct}
-use Rattle.agenda_wheel.specs.Wheel.{pair_at, pairs_of, Sound}
+use Rattle.agenda_wheel.specs.Wheel.{pairs_of, Sound}
 use Rattle.agenda_wheel.proofs.growth.grow_by.Given as goal
 
 abbrev pub invariant-loop-grown : goal.invariant-loop-grown

@@ -1,5 +1,4 @@
-use Rattle.std.proofs.Common.{◌≡◌, refl}
-use Rattle.agenda_wheel.proofs.Filling.{used_sound, used_pairs, used_size}
+use Rattle.agenda_wheel.proofs.Filling.{used_sound, used_pairs}
 use Rattle.agenda_wheel.proofs.links.fill.Goals as goal
 
 pub returns-clause-sound : goal.returns-clause-sound

@@ -1,4 +1,4 @@
-use Rattle.std.proofs.Common.{◌≡◌, ◌≢◌, ℕ, refl, sym, subst}
+use Rattle.std.proofs.Common.{◌≡◌, ◌≢◌, ℕ, sym, subst}
 use Rattle.agenda_wheel.proofs.Freeing.{freed_sound, freed_pairs, freed_links}
 use Rattle.agenda_wheel.specs.Nodes.{nil}
 use Rattle.agenda_wheel.specs.Wheel.{tick_next, tick_prev}

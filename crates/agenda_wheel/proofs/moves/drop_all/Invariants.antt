@@ -1,4 +1,4 @@
-use Rattle.std.proofs.Common.{◌≡◌, length, count_by, ◌+◌, ◌≤◌}
+use Rattle.std.proofs.Common.{◌≡◌, length, count_by, ◌+◌}
 use Rattle.agenda.specs.Dues.{without_actor, ticks_of}
 use Rattle.agenda_wheel.specs.Kept.{is_free, KeepsLeasts}
 use Rattle.agenda_wheel.specs.Slots.{sorted, Distinct}

@@ -1,14 +1,14 @@
-use Rattle.std.proofs.Common.{◌≡◌, ◌<◌, ◌≤◌, ◌+◌, length, slice_set, count_by, None, refl, sym, ap, ◌∙◌, subst, arith}
+use Rattle.std.proofs.Common.{◌≡◌, ◌<◌, ◌+◌, length, slice_set, count_by, None, sym, ap, ◌∙◌, arith}
 use Rattle.std.proofs.lemmas.List.{get_or_default, length-map}
 use Rattle.std.proofs.lemmas.List.Sums.{count_by-le-length}
 use Rattle.agenda.specs.Dues.{without_actor, ticks_of}
 use Rattle.agenda_wheel.specs.Nodes.{nil, head_of}
-use Rattle.agenda_wheel.specs.Kept.{is_free, KeepsLeasts}
-use Rattle.agenda_wheel.specs.Slots.{sorted, Distinct}
+use Rattle.agenda_wheel.specs.Kept.{is_free}
+use Rattle.agenda_wheel.specs.Slots.{sorted}
 use Rattle.agenda_wheel.specs.Wheel.{pair_at, pairs_of}
 use Rattle.agenda_wheel.specs.declared.links.Node.{Node}
 use Rattle.agenda_wheel.proofs.Adding.{one_more}
-use Rattle.agenda_wheel.proofs.Dropping.{step_left, step_count, all_left, none_left}
+use Rattle.agenda_wheel.proofs.Dropping.{step_left, step_count, all_left}
 use Rattle.agenda_wheel.proofs.Freeing.{map_get}
 use Rattle.agenda_wheel.proofs.moves.drop_each.Goals as goal
 

@@ -1,6 +1,5 @@
-use Rattle.std.proofs.Common.{◌≡◌, ◌<◌, ◌+◌, ℕ, length, count_by, slice_set, slice_index_or, Some, None, refl, sym, ap, ◌∙◌, subst, arith}
+use Rattle.std.proofs.Common.{◌≡◌, ◌+◌, count_by, slice_set, slice_index_or, Some, sym, ap, ◌∙◌, subst, arith}
 use Rattle.std.proofs.lemmas.List.{get_or_default, length-map}
-use Rattle.agenda.specs.Dues.{add_due}
 use Rattle.agenda_wheel.specs.Kept.{is_free}
 use Rattle.agenda_wheel.specs.Nodes.{nil, head_of}
 use Rattle.agenda_wheel.specs.Slots.{sorted, Distinct}

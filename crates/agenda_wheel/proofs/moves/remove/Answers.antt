@@ -1,4 +1,4 @@
-use Rattle.std.proofs.Common.{◌≡◌, ◌≢◌, ℕ, ◌<◌, slice_index_or, slice_set, Some, None, sym, ◌∙◌, subst}
+use Rattle.std.proofs.Common.{◌≡◌, ◌≢◌, ℕ, ◌<◌, slice_index_or, Some, None, sym, ◌∙◌, subst}
 use Rattle.agenda.specs.Dues.{least}
 use Rattle.agenda_wheel.specs.Kept.{in_bucket}
 use Rattle.agenda_wheel.specs.Slots.{sorted, Distinct}

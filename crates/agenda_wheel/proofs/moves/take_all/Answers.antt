@@ -1,4 +1,4 @@
-use Rattle.std.proofs.Common.{◌≡◌, ◌∙◌, sym, ap}
+use Rattle.std.proofs.Common.{◌∙◌, sym, ap}
 use Rattle.agenda.specs.Dues.{least}
 use Rattle.agenda_wheel.specs.Kept.{in_bucket}
 use Rattle.agenda_wheel.specs.Slots.{sorted}

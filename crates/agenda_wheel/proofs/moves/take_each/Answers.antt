@@ -1,9 +1,9 @@
-use Rattle.std.proofs.Common.{◌≡◌, ◌+◌, ◌-◌, ◌<◌, ◌≤◌, ◌%◌, ◌++◌, List, [], cond, length, take, drop, nat_cmp, None, slice_index_or, slice_set}
+use Rattle.std.proofs.Common.{◌≡◌, ◌≤◌, ◌%◌, ◌++◌, List, [], cond, length, take, drop, nat_cmp, None, slice_index_or, slice_set}
 use Rattle.std.proofs.Common.{refl, sym, ap, ◌∙◌, subst, arith, length-append}
 use Rattle.std.specs.List.Sorted.{IsPermutation, IsSortedByKey}
 use Rattle.std.proofs.lemmas.List.{get_or_default}
 use Rattle.sim_base.specs.declared.ids.ActorId.{ActorId}
-use Rattle.agenda.specs.Dues.{due_at, without_tick}
+use Rattle.agenda.specs.Dues.{due_at}
 use Rattle.agenda_wheel.specs.Nodes.{nil, next_of, head_of}
 use Rattle.agenda_wheel.specs.Seen.{asks, asker}
 use Rattle.agenda_wheel.specs.Slots.{sorted}
@@ -13,7 +13,7 @@ use Rattle.agenda_wheel.proofs.Freeing.{map_get}
 use Rattle.agenda_wheel.proofs.Looking.{read_at}
 use Rattle.agenda_wheel.proofs.Seeing.{Ahead}
 use Rattle.agenda_wheel.proofs.Sets.{rises_sorted}
-use Rattle.agenda_wheel.proofs.Taking.{Taking, Taken, AllTaken, take_begin, take_pairs, take_ahead, take_end, take_sorted, drop_more, got_more}
+use Rattle.agenda_wheel.proofs.Taking.{Taking, take_begin, take_pairs, take_ahead, take_end, take_sorted, drop_more, got_more}
 use Rattle.agenda_wheel.proofs.Taking.{all_got, drop_self, got_none}
 use Rattle.agenda_wheel.proofs.moves.take_each.Goals as goal
 

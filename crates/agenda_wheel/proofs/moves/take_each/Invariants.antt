@@ -1,4 +1,4 @@
-use Rattle.std.proofs.Common.{◌≡◌, ◌+◌, ◌≤◌, ◌++◌, length, drop, count_by}
+use Rattle.std.proofs.Common.{◌≡◌, ◌+◌, ◌++◌, length, drop, count_by}
 use Rattle.agenda.specs.Dues.{due_at, without_tick}
 use Rattle.agenda_wheel.specs.Kept.{is_free}
 use Rattle.agenda_wheel.specs.Nodes.{nil, next_of}

@@ -1,4 +1,4 @@
-use Rattle.std.proofs.Common.{◌≡◌, ◌<◌, length, refl, arith}
+use Rattle.std.proofs.Common.{refl, arith}
 use Rattle.agenda_wheel.proofs.Finding.{steps_below, not_found}
 use Rattle.agenda_wheel.proofs.walks.holds.Goals as goal
 

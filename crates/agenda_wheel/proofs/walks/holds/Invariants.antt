@@ -1,5 +1,5 @@
-use Rattle.std.proofs.Common.{◌≡◌, ◌≢◌, ◌<◌, ◌+◌, ◌-◌, ◌≤◌, ℕ, length, Some}
-use Rattle.agenda_wheel.specs.Nodes.{nil, next_of, head_of}
+use Rattle.std.proofs.Common.{◌≡◌, ◌≢◌, ◌<◌, ◌+◌, ◌-◌, ℕ, length, Some}
+use Rattle.agenda_wheel.specs.Nodes.{next_of, head_of}
 use Rattle.agenda_wheel.specs.Wheel.{pair_at}
 use Rattle.agenda_wheel.specs.declared.links.Side.TheVariants as side
 use Rattle.agenda_wheel.proofs.Walking.{visited}

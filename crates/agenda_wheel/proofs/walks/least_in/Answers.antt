@@ -1,6 +1,6 @@
-use Rattle.std.proofs.Common.{◌≡◌, ◌+◌, ◌<◌, ◌≤◌, length, slice_index_or, None, sym, ap, ◌∙◌, subst, arith}
+use Rattle.std.proofs.Common.{length, None, sym, ap, ◌∙◌, subst, arith}
 use Rattle.std.proofs.lemmas.List.{get_or_default}
-use Rattle.agenda_wheel.specs.Nodes.{nil, next_of, head_of}
+use Rattle.agenda_wheel.specs.Nodes.{nil, next_of}
 use Rattle.std.specs.Option.{option_map}
 use Rattle.agenda.specs.declared.due.Due.{Due}
 use Rattle.agenda_wheel.specs.Wheel.{pair_at}

@@ -1,4 +1,3 @@
-use Rattle.std.proofs.Common.{◌≡◌, length}
 use Rattle.agenda_wheel.specs.Nodes.{nil, next_of}
 use Rattle.agenda_wheel.specs.Wheel.{pair_at}
 use Rattle.agenda_wheel.specs.declared.links.Side.TheVariants as side

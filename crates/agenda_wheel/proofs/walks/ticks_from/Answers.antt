@@ -1,6 +1,6 @@
-use Rattle.std.proofs.Common.{◌≡◌, ◌+◌, ◌<◌, ◌≤◌, ◌++◌, List, ℕ, length, slice_index_or, [], sym, ap, ◌∙◌, subst, arith}
+use Rattle.std.proofs.Common.{◌+◌, ◌++◌, List, ℕ, length, slice_index_or, [], sym, ap, ◌∙◌, subst, arith}
 use Rattle.std.proofs.lemmas.List.{get_or_default}
-use Rattle.agenda_wheel.specs.Nodes.{nil, next_of, head_of}
+use Rattle.agenda_wheel.specs.Nodes.{nil, next_of}
 use Rattle.agenda_wheel.specs.Seen.{tick_in}
 use Rattle.agenda_wheel.specs.Wheel.{pair_at}
 use Rattle.agenda_wheel.specs.declared.links.Node.{Node}

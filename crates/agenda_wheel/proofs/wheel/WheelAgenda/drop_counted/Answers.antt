@@ -1,4 +1,4 @@
-use Rattle.std.proofs.Common.{◌≡◌, ◌≤◌, ◌+◌, not, nat_eq, ℕ, List, count_by, length, sym, ap, ◌∙◌, arith}
+use Rattle.std.proofs.Common.{◌≤◌, ◌+◌, not, nat_eq, ℕ, List, count_by, length, sym, ap, ◌∙◌, arith}
 use Rattle.std.proofs.lemmas.List.{with_items_is}
 use Rattle.agenda_wheel.proofs.Dropping.{beyond_left, beyond_none}
 use Rattle.agenda.specs.Dues.{without_actor}
@@ -15,10 +15,9 @@ invariant_of-self g c =
       with_items_is c.self.inside.nodes c.drop_all.new.nodes (omega arith),
       with_items_is c.self.inside.ticks c.drop_all.new.ticks (omega arith),
       with_items_is c.self.inside.actors c.drop_all.new.actors (omega arith),
-      with_items_is c.self.inside.leasts c.drop_all.new.leasts (omega arith),
     )
     (whole_less c.self.inside.nodes.items c.drop_all.new.nodes c.self.inside.ticks.items c.drop_all.new.ticks c.self.inside.actors.items
-    c.drop_all.new.actors c.self.inside.leasts.items c.drop_all.new.leasts
+    c.drop_all.new.actors c.self.inside.leasts c.drop_all.new.leasts
     c.self.inside.floor c.self.inside.floor c.self.inside.spare c.drop_all.result (λ d. not (nat_eq d.actor.0 c.args.actor.0))
     c.self.invariant c.drop_all.ensures.sound c.drop_all.ensures.apart c.drop_all.ensures.leasts
     (omega (arith, ap (λ (xs : List ℕ). length xs) c.as_mut_slice-then-actor-len-2.ensures.value))

@@ -1,7 +1,6 @@
-use Rattle.std.proofs.Common.{◌≡◌, ◌≤◌, ◌+◌, ◌-◌, ℕ, List, count_by, length, sym, ap, ◌∙◌, arith}
+use Rattle.std.proofs.Common.{◌-◌, ℕ, List, count_by, length, ap, ◌∙◌, arith}
 use Rattle.std.proofs.lemmas.List.{with_items_is}
 use Rattle.agenda.specs.Dues.{add_due}
-use Rattle.agenda.specs.declared.due.Due.{Due}
 use Rattle.agenda_wheel.specs.Kept.{is_free}
 use Rattle.agenda_wheel.specs.Slots.{sorted}
 use Rattle.agenda_wheel.specs.Wheel.{pairs_of}
@@ -17,11 +16,10 @@ invariant_of-self c =
       with_items_is c.self.inside.nodes c.add_pair.new.nodes (omega arith),
       with_items_is c.self.inside.ticks c.add_pair.new.ticks (omega arith),
       with_items_is c.self.inside.actors c.add_pair.new.actors (omega arith),
-      with_items_is c.self.inside.leasts c.add_pair.new.leasts (omega arith),
       c.min-self-inside.ensures,
     )
     (whole_more c.self.inside.nodes.items c.add_pair.new.nodes c.self.inside.ticks.items c.add_pair.new.ticks c.self.inside.actors.items
-    c.add_pair.new.actors c.self.inside.leasts.items c.add_pair.new.leasts
+    c.add_pair.new.actors c.self.inside.leasts c.add_pair.new.leasts
     c.self.inside.floor c.self.inside.spare (c.self.inside.spare - 1) (record { tick = c.args.tick; actor = c.args.actor })
     c.self.invariant c.add_pair.ensures.sound c.add_pair.ensures.apart c.add_pair.ensures.leasts
     (omega (arith, ap (λ (xs : List ℕ). length xs) c.as_mut_slice-3.ensures.value))
@@ -37,11 +35,10 @@ invariant_of-self-else-add_pair c =
       with_items_is c.self.inside.nodes c.add_pair.new.nodes (omega arith),
       with_items_is c.self.inside.ticks c.add_pair.new.ticks (omega arith),
       with_items_is c.self.inside.actors c.add_pair.new.actors (omega arith),
-      with_items_is c.self.inside.leasts c.add_pair.new.leasts (omega arith),
       c.min-self-inside.ensures,
     )
     (whole_more c.self.inside.nodes.items c.add_pair.new.nodes c.self.inside.ticks.items c.add_pair.new.ticks c.self.inside.actors.items
-    c.add_pair.new.actors c.self.inside.leasts.items c.add_pair.new.leasts
+    c.add_pair.new.actors c.self.inside.leasts c.add_pair.new.leasts
     c.self.inside.floor c.self.inside.spare c.self.inside.spare (record { tick = c.args.tick; actor = c.args.actor })
     c.self.invariant c.add_pair.ensures.sound c.add_pair.ensures.apart c.add_pair.ensures.leasts
     (omega (arith, ap (λ (xs : List ℕ). length xs) c.as_mut_slice-3.ensures.value))

@@ -1,4 +1,4 @@
-use Rattle.std.proofs.Common.{◌≡◌, ◌≤◌, ◌+◌, not, nat_eq, ℕ, List, count_by, length, sym, ap, ◌∙◌, arith}
+use Rattle.std.proofs.Common.{◌≤◌, ◌+◌, not, nat_eq, ℕ, List, count_by, length, sym, ap, ◌∙◌, arith}
 use Rattle.std.proofs.lemmas.List.{with_items_is}
 use Rattle.agenda_wheel.proofs.Dropping.{beyond_left}
 use Rattle.agenda.specs.Dues.{without_actor}
@@ -15,10 +15,9 @@ invariant_of-self c =
       with_items_is c.self.inside.nodes c.drop_each.new.nodes (omega arith),
       with_items_is c.self.inside.ticks c.drop_each.new.ticks (omega arith),
       with_items_is c.self.inside.actors c.drop_each.new.actors (omega arith),
-      with_items_is c.self.inside.leasts c.drop_each.new.leasts (omega arith),
     )
     (whole_less c.self.inside.nodes.items c.drop_each.new.nodes c.self.inside.ticks.items c.drop_each.new.ticks c.self.inside.actors.items
-    c.drop_each.new.actors c.self.inside.leasts.items c.drop_each.new.leasts
+    c.drop_each.new.actors c.self.inside.leasts c.drop_each.new.leasts
     c.self.inside.floor c.self.inside.floor c.self.inside.spare c.drop_each.result (λ d. not (nat_eq d.actor.0 c.args.actor.0))
     c.self.invariant c.drop_each.ensures.sound c.drop_each.ensures.apart c.drop_each.ensures.leasts
     (omega (arith, ap (λ (xs : List ℕ). length xs) c.as_mut_slice-then-actor-len-2.ensures.value))

@@ -1,5 +1,4 @@
-use Rattle.std.proofs.Common.{◌≡◌, ◌%◌, ℕ, List, length, slice_index_or, Option, None, refl, sym, ap, ◌∙◌, subst}
-use Rattle.agenda_wheel.specs.Seen.{IsLeastBelow}
+use Rattle.std.proofs.Common.{refl}
 use Rattle.agenda_wheel.specs.Wheel.{pairs_of}
 use Rattle.agenda_wheel.proofs.Sets.{rises_sorted}
 use Rattle.agenda_wheel.proofs.Whole.{floor_is, least_is}
@@ -8,9 +7,8 @@ use Rattle.agenda_wheel.proofs.wheel.WheelAgendaAgenda.least.Goals as goal
 pub returns-then-is_least-clause-value : goal.returns-then-is_least-clause-value
 returns-then-is_least-clause-value c =
     rw (← c.self.view_is)
-    (floor_is c.self.inside.nodes.items c.self.inside.ticks.items c.self.inside.actors.items c.self.inside.leasts.items c.self.inside.floor
-    c.self.inside.spare c.self.invariant (ap (λ (ls : List (Option ℕ)).
-    slice_index_or ls (c.self.inside.floor % 1024) None) (sym c.as_slice.ensures.value) ∙ c.if-is_least.ensures.there refl))
+    (floor_is c.self.inside.nodes.items c.self.inside.ticks.items c.self.inside.actors.items c.self.inside.leasts c.self.inside.floor
+    c.self.inside.spare c.self.invariant (c.if-is_least.ensures.there refl))
 
 pub returns-then-is_least-clause-order : goal.returns-then-is_least-clause-order
 returns-then-is_least-clause-order c = rw (← c.self.view_is) (rises_sorted (pairs_of c.self.inside.nodes.items))
@@ -18,10 +16,8 @@ returns-then-is_least-clause-order c = rw (← c.self.view_is) (rises_sorted (pa
 pub returns-else-is_least-clause-value : goal.returns-else-is_least-clause-value
 returns-else-is_least-clause-value c =
     rw (← c.self.view_is)
-    (least_is c.self.inside.nodes.items c.self.inside.ticks.items c.self.inside.actors.items c.self.inside.leasts.items c.self.inside.floor
-    c.self.inside.spare c.least_of_all.result c.self.invariant
-    (subst (λ (ls : List (Option ℕ)). IsLeastBelow ls (length ls) c.least_of_all.result) c.as_slice-else-is_least.ensures.value
-    c.least_of_all.ensures))
+    (least_is c.self.inside.nodes.items c.self.inside.ticks.items c.self.inside.actors.items c.self.inside.leasts c.self.inside.floor
+    c.self.inside.spare c.least.result c.self.invariant c.least.ensures)
 
 pub returns-else-is_least-clause-order : goal.returns-else-is_least-clause-order
 returns-else-is_least-clause-order c = rw (← c.self.view_is) (rises_sorted (pairs_of c.self.inside.nodes.items))

@@ -1,7 +1,6 @@
-use Rattle.std.proofs.Common.{◌≡◌, ◌+◌, ◌-◌, ◌≤◌, ◌++◌, ℕ, List, count_by, replicate, length, sym, ap, ◌∙◌, subst, arith, length-append}
+use Rattle.std.proofs.Common.{◌+◌, ℕ, List, count_by, length, ap, ◌∙◌, subst, arith, length-append}
 use Rattle.std.proofs.lemmas.List.{with_items_is}
 use Rattle.agenda_wheel.specs.Kept.{is_free}
-use Rattle.agenda_wheel.specs.Nodes.{nil}
 use Rattle.agenda_wheel.specs.Slots.{sorted}
 use Rattle.agenda_wheel.specs.Wheel.{pairs_of, Sound}
 use Rattle.agenda_wheel.specs.declared.links.Node.{Node}
@@ -23,7 +22,7 @@ invariant_of-self-2 c =
     ∙ length-append c.self.inside.actors.items _ in
     rw (with_items_is c.make_room.new.actors c.grow_by.new.actors (omega arith))
     (whole_grown c.self.inside.nodes.items c.grow_by.new.nodes.items c.self.inside.ticks.items c.self.inside.actors.items c.grow_by.new.actors
-    c.self.inside.leasts.items
+    c.self.inside.leasts
     c.self.inside.floor c.self.inside.spare c.saturating_sub-more.result c.self.invariant
     (subst (λ ts. Sound c.grow_by.new.nodes.items ts c.grow_by.new.actors) c.as_slice.ensures.value c.grow_by.ensures.sound)
     c.grow_by.ensures.apart (omega (arith, e))

@@ -1,4 +1,4 @@
-use Rattle.std.proofs.Common.{◌≡◌, ◌+◌, ◌≤◌, length, sym, ◌∙◌, arith}
+use Rattle.std.proofs.Common.{◌+◌, ◌≤◌, length, sym, ◌∙◌, arith}
 use Rattle.agenda_wheel.proofs.Dropping.{beyond_ticks}
 use Rattle.agenda_wheel.proofs.wheel.WheelAgendaAgenda.ticks_of.Goals as goal
 

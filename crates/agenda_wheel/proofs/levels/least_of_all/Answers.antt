@@ -1,7 +1,7 @@
-use Rattle.std.proofs.Common.{◌≡◌, ◌+◌, refl, sym, subst}
+use Rattle.std.proofs.Common.{◌+◌, refl, sym, subst}
 use Rattle.agenda_wheel.specs.Seen.{IsLeastBelow}
 use Rattle.agenda_wheel.proofs.Firsts.{least_more}
-use Rattle.agenda_wheel.proofs.leasts.least_of_all.Goals as goal
+use Rattle.agenda_wheel.proofs.levels.least_of_all.Goals as goal
 
 pub loop-tick-preserved : goal.loop-tick-preserved
 loop-tick-preserved c =

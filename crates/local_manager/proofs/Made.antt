@@ -1,5 +1,5 @@
 -- What the steps of a close ask, and that they leave the world after the moment.
-use Rattle.std.proofs.Common.{◌≡◌, ℕ, ◌+◌, ◌-◌, ◌^◌, ◌≤◌, min, not, ◌||◌, ◌&&◌, None, Option, Some, List, [], ◌++◌, length, map, refl, sym, ap, arith}
+use Rattle.std.proofs.Common.{◌≡◌, ℕ, ◌+◌, ◌-◌, ◌^◌, ◌<◌, ◌≤◌, min, not, ◌||◌, ◌&&◌, None, Option, Some, List, [], ◌++◌, length, map, refl, sym, ap, arith}
 use Rattle.std.proofs.Common.{◌∙◌, subst, length-append}
 use Rattle.std.proofs.lemmas.List.{length-map}
 use Rattle.std.proofs.lemmas.List.Folds.{fold-map}
@@ -81,6 +81,18 @@ can_post m law v h none = record {
   newborn = (closed_upright m law v [] h none).whole.newborn.ascend;
   told = told_rise m (next_id v.one) (reports_now m v) (are_reports m law v.one v.moment h.whole.scheduled h.whole.cast.fits).ascend;
 }
+
+-- ... and the actors are fewer than the numbers
+pub states_few : {A : Type 0} (m : Meaning A) (v : WorldParts A) (states1 states2 : List (Option A)) (kept : List (Report A)) (born : List (Newborn A))
+    → IsUpright m v → fault_of_moment m v.one v.moment (reports_now m v) ≡ None → kept ≡ map without_births (reports_now m v) → born ≡ born_now m v
+    → states1 ≡ fold put_state v.one.states kept → states2 ≡ states1 ++ map (λ b. Some b.state) born → length states2 < 2 ^ 32
+states_few {A} m v states1 states2 kept born h none emptied bears put all =
+    let rs : List (Report A) = reports_now m v in
+    let fits = closed_count m v.one.parameters.max_actors v.moment v.one rs none h.whole.parameters.count in
+    let puts : fold put_state v.one.states (map without_births rs) ≡ fold put_state v.one.states rs = fold-map put_state without_births v.one.states rs in
+    let full : states2 ≡ (closed_now m v).states = rw (all, put, emptied, bears, puts) refl in
+    let long : length states2 ≡ length (closed_now m v).states = ap length full in
+    omega (arith, long, fits, h.whole.parameters.max_actors)
 
 made : {A : Type 0} (m : Meaning A) (v : WorldParts A) (d : Directed) (states : List (Option A)) (newborn : List ActorId) (cast : List Member)
     (letters : List Letter) (dead_letters dead : ℕ)

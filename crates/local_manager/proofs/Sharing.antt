@@ -1,22 +1,24 @@
 -- A list shared out among managers.
-use Rattle.std.proofs.Common.{◌≡◌, ℕ, suc, zero, ◌<◌, ◌≤◌, Bool, true, nat_eq, List, [], ◌∷◌, ◌++◌, map, Some, slice_get, slice_set, length, refl}
+use Rattle.std.proofs.Common.{◌≡◌, ℕ, suc, zero, ◌+◌, ◌<◌, ◌≤◌, Bool, true, false, nat_eq, List, [], ◌∷◌, ◌++◌, map, Some, slice_get, slice_set, length, refl}
+use Rattle.std.proofs.Common.{get_or}
 use Rattle.std.proofs.Common.{sym, ap, arith, ◌∙◌, subst}
 use Rattle.std.proofs.lemmas.Bool.Decides.{nat_tests}
 use Rattle.std.proofs.lemmas.List.{append-nil}
 use Rattle.std.proofs.lemmas.List.Elements.{filter-append, All-head, All-tail}
 use Rattle.std.specs.List.{filter, All}
+use Rattle.std.specs.Prelude.{Err, Ok, OnErr, Result}
 use Rattle.sim_base.specs.declared.ids.ActorId.{ActorId}
 use Rattle.local_manager.specs.Merged.{union, IsRising, Precedes, at_home, IsSplit}
 use Rattle.local_manager.specs.Directories.{AllBelow, Kept, home_of, home_of_due, id_before}
 use Rattle.sim_model.specs.Setups.{Ascend}
 use Rattle.sim_model.proofs.Ascending.{pairs_head, pairs_tail}
 use Rattle.agenda.specs.declared.due.Due.{Due}
-use Rattle.std.proofs.Common.{map, ◌⊎◌, inl, inr, replicate, Bool}
-use Rattle.std.proofs.lemmas.List.{length-replicate, map-append, map-set}
-use Rattle.std.proofs.lemmas.Option.{slice_get-map}
+use Rattle.std.proofs.Common.{replicate}
+use Rattle.std.proofs.lemmas.List.{length-map, length-replicate, map-append, map-set}
+use Rattle.std.proofs.lemmas.Option.{slice_get-map, slice_get_within}
 use Rattle.sim_base.specs.Room.{Room}
 use Rattle.agenda.specs.Dues.{comes_before, due_at}
-use Rattle.local_manager.proofs.Keeping.{joined_ids, kept_lists, split_set}
+use Rattle.local_manager.proofs.Keeping.{Got, get_set, joined_ids, kept_lists, split_set}
 
 pub split_none : {X : Type 0} (home : X → ℕ) → IsSplit home [] []
 split_none home = λ m p e. absurd (cc)
@@ -67,6 +69,12 @@ shared homes loads agendas old lists ids k long s rises =
       scheduled = joined;
     }
 
+-- as many lists as before
+pub lists_long : (old new : List (Room ActorId)) (agendas : List (List Due)) → length (map (λ r. r.list) old) ≡ length agendas → length new ≡ length old
+    → length (map (λ r. r.list) new) ≡ length agendas
+lists_long old new agendas each same =
+    length-map {A = Room ActorId} new (λ r. r.list) ∙ same ∙ sym (length-map {A = Room ActorId} old (λ r. r.list)) ∙ each
+
 -- one more manager, without anybody
 pub split_pushed : (homes : List ℕ) (lists : List (Room ActorId)) (r : Room ActorId) → r.list ≡ [] → IsSplit (home_of homes) [] (map (λ r. r.list) lists)
     → IsSplit (home_of homes) [] (map (λ r. r.list) (lists ++ r ∷ []))
@@ -86,36 +94,69 @@ split_shared homes all lists id k old new s same is e =
     rw (map-set {A = Room ActorId} (λ r. r.list) lists k new, e)
     (split_more (home_of homes) all (map {A = Room ActorId} (λ r. r.list) lists) id k old.list s same there)
 
+-- ---- lists that a loop goes through
+
+-- what holds of the first items holds of one more, which was written
+pub below_written : {X : Type 0} (P : ℕ → X → Type 0) (xs : List X) (i : ℕ) (y : X)
+    → ((k : ℕ) (x : X) → k < i → slice_get xs k ≡ Some x → P k x) → P i y
+    → (k : ℕ) (x : X) → k < i + 1 → slice_get (slice_set xs i y) k ≡ Some x → P k x
+below_written {X} P xs i y below here k x lt is = told (nat_eq i k) refl (get_set xs i k y x is (nat_eq i k) refl)
+  where
+    told : (b : Bool) → nat_eq i k ≡ b → Got xs k y x b → P k x
+    told true h got =
+        let at : i ≡ k = grind (arith, nat_tests, h) in
+        subst (λ (n : ℕ). P n x) at (subst (λ (z : X). P i z) (sym got) here)
+    told false h got =
+        let apart : k < i = grind (arith, nat_tests, h, lt) in
+        below k x apart got
+
+-- what was written has the same value
+pub same_written : {X Y : Type 0} (f : X → Y) (xs : List X) (i : ℕ) (y d : X) → f y ≡ f (get_or xs i d) → map f (slice_set xs i y) ≡ map f xs
+same_written f [] i y d e = refl
+same_written f (x ∷ xs) zero y d e = ap (λ z. z ∷ map f xs) e
+same_written f (x ∷ xs) (suc i) y d e = ap (λ l. f x ∷ l) (same_written f xs i y d e)
+
+-- what stands in the list of what the items are mapped to
+got_mapped : {X Y : Type 0} (f : X → Y) (xs : List X) (m : ℕ) (y : Y) → slice_get (map f xs) m ≡ Some y
+    → (x : X) × (slice_get xs m ≡ Some x) × (y ≡ f x)
+got_mapped f [] m y e = absurd (cc)
+got_mapped f (x ∷ xs) zero y e = (x, refl, cc)
+got_mapped f (x ∷ xs) (suc m) y e = got_mapped f xs m y e
+
+-- nobody stands in lists that are all empty
+pub all_empty : (homes : List ℕ) (lists : List (Room ActorId)) (n : ℕ) → length lists ≤ n
+    → ((k : ℕ) (r : Room ActorId) → k < n → slice_get lists k ≡ Some r → r.list ≡ []) → IsSplit (home_of homes) [] (map (λ r. r.list) lists)
+all_empty homes lists n long empty = λ m p e.
+    let found = got_mapped (λ (r : Room ActorId). r.list) lists m p e in
+    found.2 ∙ empty m found.0 (omega (arith, long, slice_get_within lists m found.0 found.1)) found.1
+
+-- what stood in the lists is what stands there
+pub empty_still : (homes : List ℕ) (old new : List (Room ActorId)) → map (λ r. r.list) new ≡ map (λ r. r.list) old
+    → IsSplit (home_of homes) [] (map (λ r. r.list) old) → IsSplit (home_of homes) [] (map (λ r. r.list) new)
+empty_still homes old new same none = λ m p e. none m p (ap (λ (l : List (List ActorId)). slice_get l m) (sym same) ∙ e)
+
+-- what is true is true of an Err
+pub on_err : {A E : Type 0} {P : Type 0} (r : Result A E) → P → OnErr r P
+on_err (Ok x) p = tt
+on_err (Err e) p = p
+
 -- ---- lists with room for those of a tick
 
-abbrev pub HaveRoom : ℕ → List (List Due) → List (Room ActorId) → Type 0
-HaveRoom tick domains lists = (m : ℕ) (p : List Due) (r : Room ActorId) → slice_get domains m ≡ Some p → slice_get lists m ≡ Some r
+abbrev pub HasRoom : ℕ → List (List Due) → ℕ → Room ActorId → Type 0
+HasRoom tick domains m r = (p : List Due) → slice_get domains m ≡ Some p → length (due_at tick p) ≤ r.spare
+
+-- lists that were empty, and have got room
+pub have_room : (tick : ℕ) (domains : List (List Due)) (old new : List (Room ActorId))
+    → map (λ r. r.list) new ≡ map (λ r. r.list) old → IsSplit (home_of []) [] (map (λ r. r.list) old)
+    → ((m : ℕ) (p : List Due) (r : Room ActorId) → slice_get domains m ≡ Some p → slice_get new m ≡ Some r → length (due_at tick p) ≤ r.spare)
+    → (m : ℕ) (p : List Due) (r : Room ActorId) → slice_get domains m ≡ Some p → slice_get new m ≡ Some r
     → (r.list ≡ []) × (length (due_at tick p) ≤ r.spare)
-
-pub room_more : (tick : ℕ) (domains : List (List Due)) (lists : List (Room ActorId)) (n : ℕ) (p : List Due) (r : Room ActorId)
-    → HaveRoom tick domains lists → length lists ≡ n
-    → slice_get domains n ≡ Some p → r.list ≡ [] → length (due_at tick p) ≤ r.spare → HaveRoom tick domains (lists ++ r ∷ [])
-room_more tick domains lists n p r h long is none fits m q s e f = told (pushed_at lists r m s f)
-  where
-    told : (slice_get lists m ≡ Some s) ⊎ ((m ≡ length lists) × (s ≡ r)) → (s.list ≡ []) × (length (due_at tick q) ≤ s.spare)
-    told (inl g) = h m q s e g
-    told (inr g) =
-        let at : m ≡ n = g.0 ∙ long in
-        let same : p ≡ q = cc (is, subst (λ (k : ℕ). slice_get domains k ≡ Some q) at e) in (
-          ap (λ (r : Room ActorId). r.list) g.1 ∙ none,
-          subst (λ (t : Room ActorId). length (due_at tick q) ≤ t.spare) (sym g.1) (subst (λ (d : List Due). length (due_at tick d) ≤ r.spare) same fits),
-        )
-
-    pushed_at : {X : Type 0} (xs : List X) (x : X) (m : ℕ) (y : X) → slice_get (xs ++ x ∷ []) m ≡ Some y
-        → (slice_get xs m ≡ Some y) ⊎ ((m ≡ length xs) × (y ≡ x))
-    pushed_at [] x zero y e = inr (refl, cc)
-    pushed_at [] x (suc m) y e = absurd (cc)
-    pushed_at (z ∷ xs) x zero y e = inl e
-    pushed_at (z ∷ xs) x (suc m) y e = deeper (pushed_at xs x m y e)
-      where
-        deeper : (slice_get xs m ≡ Some y) ⊎ ((m ≡ length xs) × (y ≡ x)) → (slice_get xs m ≡ Some y) ⊎ ((suc m ≡ suc (length xs)) × (y ≡ x))
-        deeper (inl g) = inl g
-        deeper (inr g) = inr (ap suc g.0, g.1)
+have_room tick domains old new same none room m p r e f =
+    let there : slice_get (map {A = Room ActorId} (λ r. r.list) new) m ≡ Some r.list =
+    slice_get-map {A = Room ActorId} (λ r. r.list) new m ∙ rw f refl in (
+      empty_still [] old new same none m r.list there,
+      room m p r e f,
+    )
 
 -- ---- nobody
 

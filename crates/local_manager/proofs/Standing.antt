@@ -1,5 +1,5 @@
 -- What holds of a world between two calls.
-use Rattle.std.proofs.Common.{◌≡◌, ◌≢◌, ℕ, ◌+◌, ◌<◌, ◌≤◌, suc, zero, nat_eq, true, List, [], ◌∷◌, Option, length, refl, arith, subst}
+use Rattle.std.proofs.Common.{◌≡◌, ◌≢◌, ℕ, ◌+◌, ◌-◌, ◌<◌, ◌≤◌, suc, zero, nat_eq, Bool, true, false, cond, List, [], ◌∷◌, Option, length, refl, arith, subst}
 use Rattle.std.proofs.lemmas.List.Elements.{All-filter, All-head, All-tail, All-weaker}
 use Rattle.std.specs.List.{All}
 use Rattle.sim_base.specs.declared.ids.ActorId.{ActorId}
@@ -10,11 +10,12 @@ use Rattle.sim_model.specs.Moment.{is_alive}
 use Rattle.sim_model.specs.Setups.{Ascend}
 use Rattle.sim_model.specs.Whole.{AreLiving}
 use Rattle.sim_model.proofs.Ascending.{pairs_head, pairs_tail}
-use Rattle.local_manager.specs.Directories.{home_of}
-use Rattle.local_manager.specs.Views.{IsSoundIn, IsUpright, WorldParts, actor_at, scheduled_at}
+use Rattle.local_manager.specs.Directories.{AllBelow, home_of}
+use Rattle.local_manager.specs.Views.{IsSoundIn, IsUpright, WorldParts, actor_at, managers_of, route_in, scheduled_at}
 use Rattle.local_manager.specs.declared.opened.Span.{Span}
 use Rattle.local_manager.specs.declared.phase.Phase.{Phase}
 use Rattle.local_manager.specs.declared.phase.Phase.TheVariants.{Opening, Entered, Closed, Torn}
+use Rattle.local_manager.proofs.Keeping.{below_at}
 use Rattle.local_manager.proofs.Placing.{alive_within}
 
 pub upright_in : {A : Type 0} (p : Phase) (m : Meaning A) (v : WorldParts A) (store : Letters) (opened : List Letter) (spans : List Span)
@@ -61,3 +62,11 @@ living_few {A} states ids h =
 
 pub scheduled_few : {A : Type 0} (m : Meaning A) (v : WorldParts A) → IsUpright m v → length v.one.scheduled ≤ 1000000
 scheduled_few m v h = omega (arith, living_few v.one.states v.one.scheduled h.whole.scheduled, h.whole.parameters.count, h.whole.parameters.max_actors)
+
+-- one manager has all
+pub one_home : {A : Type 0} (v : WorldParts A) (id : ActorId) → managers_of v ≡ 1 → AllBelow (managers_of v) v.placed.homes → 0 ≡ route_in v id
+one_home v id one below = by (is_alive v.one.states id)
+  where
+    by : (b : Bool) → 0 ≡ cond b (home_of v.placed.homes id) 0
+    by true = let fits = below_at (managers_of v) v.placed.homes (id.0 - 1) (omega (arith, one)) below in omega (arith, one, fits)
+    by false = refl

@@ -14,31 +14,19 @@ ghost use Rattle.local_manager.specs.Views.{AreInboxesNow, IsClosed, born_now, c
 ghost use Rattle.local_manager.specs.declared.phase.Phase.TheVariants as phase;
 
 use crate::actors::{admit_all, retire_all};
-use crate::called::{called_of, creators_of, ids_of};
+use crate::called::{creators_of, ids_of, put_called};
 use crate::cast::add_members;
 use crate::directory::Directory;
 use crate::posting::deliver;
 use crate::states::{add_newborn, apply_all};
-use crate::{Phase, World};
+use crate::{Phase, Room, World};
 use actor_trait::{Actor, Letter};
 use agenda::Agenda;
 use inbox_order::Inboxes;
-use inbox_store::LetterStore;
 use placement::Policy;
-use sim_base::{ActorId, Items, Memory, Roomy};
+use sim_base::{ActorId, Items, Memory};
 use sim_model::{Member, Newborn, Report};
 use std::alloc::Global;
-
-/// What comes of the letters of a moment.
-#[derive(Drop)]
-struct Posted {
-    /// How many found no living recipient.
-    dead: u64,
-    /// The living to whom one tells of a birth, ascending.
-    creators: Vec<ActorId>,
-    /// The newborn and all who have one, ascending.
-    called: Vec<ActorId>,
-}
 
 impl<A: Actor + Drop, G: Agenda + Drop> World<A, G> {
     /// Closes the moment that is entered, by the reports without their births, the newborn, the letters
@@ -64,11 +52,11 @@ impl<A: Actor + Drop, G: Agenda + Drop> World<A, G> {
         ensures torn { OnErr result (self.new.phase ≡ phase.Torn) }
     {
         self.phase = Phase::Torn;
+        let mut reports = kept.into_vec();
         carry_out(
-            self.alloc,
             &mut self.states,
             &mut self.directory,
-            kept.into_vec(),
+            &mut reports,
             gone.as_slice(),
         )?;
         self.newborn = admit(
@@ -79,21 +67,18 @@ impl<A: Actor + Drop, G: Agenda + Drop> World<A, G> {
             &mut self.states,
             born.into_vec(),
         )?;
-        let Posted {
-            dead,
-            creators,
-            called,
-        } = post(
+        let dead = deliver(&mut self.store, &self.states, &inboxes, told.as_slice())?;
+        self.creators = creators_of(self.alloc, &self.states, told.as_slice())?;
+        put_called(
             self.alloc,
-            &mut self.store,
+            &mut self.called,
             &self.states,
             &self.newborn,
             &inboxes,
-            told.as_slice(),
+            &self.creators,
         )?;
-        self.creators = creators;
-        self.called = called;
-        self.opened = Roomy::new(self.alloc);
+        self.opened.clear();
+        self.room = Room { reports, inboxes };
         self.dead_letters = self.dead_letters.saturating_add(dead);
         self.phase = Phase::Closed;
         Ok(dead)
@@ -103,16 +88,15 @@ impl<A: Actor + Drop, G: Agenda + Drop> World<A, G> {
 /// Those who acted have their next states and the ticks that they asked for, these are gone, and nobody is
 /// scheduled any more. Err is want of memory; some may be carried out then.
 fn carry_out<A: Drop, G: Agenda + Drop>(
-    alloc: Global,
     states: &mut Vec<Option<A>>,
     directory: &mut Directory<G>,
-    kept: Vec<Report<A>>,
+    kept: &mut Vec<Report<A>>,
     gone: &[ActorId],
 ) -> Result<(), Memory>
-    ensures states { OnOk result (states.new.items ≡ fold put_state states.old.items kept.items) }
-    ensures directory { OnOk result (directory.new ≡ carried_out directory.old kept.items gone.now) }
+    ensures states { OnOk result (states.new.items ≡ fold put_state states.old.items kept.old.items) }
+    ensures directory { OnOk result (directory.new ≡ carried_out directory.old kept.old.items gone.now) }
 {
-    directory.leave(alloc)?;
+    directory.leave();
     apply_all(states, directory, kept)?;
     retire_all(directory, gone);
     Ok(())
@@ -142,38 +126,4 @@ fn admit<A: Actor + Drop, G: Agenda + Drop>(
     let ids = ids_of(alloc, &born)?;
     add_newborn(states, born)?;
     Ok(ids)
-}
-
-/// Puts the letters of a moment that go to the living: those of the inboxes, and behind them those that
-/// tell of births. Err is want of memory; some may be put then.
-fn post<A>(
-    alloc: Global,
-    store: &mut LetterStore,
-    states: &[Option<A>],
-    newborn: &[ActorId],
-    inboxes: &Inboxes,
-    told: &[Letter],
-) -> Result<Posted, Memory>
-    requires empty { IsEmpty store.old }
-    requires newborn { Ascend newborn.now }
-    requires told { AllPairs (λ l k. l.to.0 ≤ k.to.0) told.now }
-    ensures lists { OnOk result ((to : ActorId) → list_of store.new to.0
-        ≡ (if is_alive states.now to then inbox_of inboxes.now to ++ filter (is_to to) told.now else [])) }
-    ensures dead { IfOk result (λ posted. posted.dead ≡ min (count_by (λ l. not (is_alive states.now l.to)) inboxes.now
-        + count_by (λ l. not (is_alive states.now l.to)) told.now) (2 ^ 64 - 1)) }
-    ensures creators { IfOk result (λ posted. Ascend posted.creators.items) }
-    ensures creates { IfOk result (λ posted. (id : ActorId) → is_among posted.creators.items id
-        ≡ (is_alive states.now id && list_any (λ l. nat_eq l.to.0 id.0) told.now)) }
-    ensures called { IfOk result (λ posted. Ascend posted.called.items) }
-    ensures calls { IfOk result (λ posted. (id : ActorId) → is_among posted.called.items id
-        ≡ (is_among newborn.now id || ((is_alive states.now id && list_any (λ l. nat_eq l.to.0 id.0) inboxes.now) || is_among posted.creators.items id))) }
-{
-    let dead = deliver(store, states, inboxes, told)?;
-    let creators = creators_of(alloc, states, told)?;
-    let called = called_of(alloc, states, newborn, inboxes, &creators)?;
-    Ok(Posted {
-        dead,
-        creators,
-        called,
-    })
 }

@@ -8,7 +8,7 @@ ghost use Rattle.local_manager.specs.Joined.{joined};
 ghost use Rattle.local_manager.specs.Merged.{at_home};
 
 use crate::Domain;
-use crate::lists::{count_items, earliest_of, empty_lists, home, share, take_all};
+use crate::lists::{clear_all, count_items, earliest_of, empty_lists, home, share, take_all};
 use agenda::Agenda;
 use placement::{Policy, place};
 use sim_base::{ActorId, Memory, Name, Roomy};
@@ -103,32 +103,30 @@ impl<G: Agenda + Drop> Directory<G> {
         earliest_of(&self.domains)
     }
 
-    /// Nobody is scheduled any more. Err is want of memory, and changes nothing.
-    pub fn leave(&mut self, alloc: Global) -> Result<(), Memory>
-        ensures ok { OnOk result (self.new ≡ record self.old { scheduled = [] }) }
-        ensures err { OnErr result (self.new ≡ self.old) }
+    /// Nobody is scheduled any more. It takes no memory.
+    pub fn leave(&mut self)
+        ensures { self.new ≡ record self.old { scheduled = [] } }
     {
-        self.lists = empty_lists(alloc, self.domains.len())?;
-        Ok(())
+        clear_all(&mut self.lists);
     }
 
-    /// These are scheduled. Err is want of memory, and changes nothing.
-    pub fn schedule(&mut self, alloc: Global, ids: &[ActorId]) -> Result<(), Memory>
+    /// These are scheduled. Err is want of memory; nobody is scheduled then.
+    pub fn schedule(&mut self, ids: &[ActorId]) -> Result<(), Memory>
         requires { Ascend ids.now }
         ensures ok { OnOk result (self.new ≡ record self.old { scheduled = ids.now }) }
-        ensures err { OnErr result (self.new ≡ self.old) }
+        ensures err { OnErr result (self.new ≡ record self.old { scheduled = [] }) }
     {
-        self.lists = share(alloc, &self.homes, self.domains.len(), ids)?;
+        share(&mut self.lists, &self.homes, ids)?;
         Ok(())
     }
 
-    /// Those that asked for a tick are scheduled, and the tick leaves the agendas. Err is want of memory,
-    /// and changes nothing.
-    pub fn take_tick(&mut self, alloc: Global, tick: u64) -> Result<(), Memory>
+    /// Those that asked for a tick are scheduled, and the tick leaves the agendas. Err is want of memory;
+    /// nobody is scheduled then, and the agendas are as they were.
+    pub fn take_tick(&mut self, tick: u64) -> Result<(), Memory>
         ensures ok { OnOk result (self.new ≡ record self.old { agenda = without_tick tick self.old.agenda; scheduled = due_at tick self.old.agenda }) }
-        ensures err { OnErr result (self.new ≡ self.old) }
+        ensures err { OnErr result (self.new ≡ record self.old { scheduled = [] }) }
     {
-        self.lists = take_all(alloc, &mut self.domains, tick)?;
+        take_all(&mut self.domains, &mut self.lists, tick)?;
         Ok(())
     }
 
@@ -137,6 +135,9 @@ impl<G: Agenda + Drop> Directory<G> {
         ensures ok { OnOk result (self.new ≡ record self.old { agenda = ask id self.old.agenda ticks.now }) }
         ensures err { OnErr result (self.new ≡ self.old) }
     {
+        if ticks.is_empty() {
+            return Ok(());
+        }
         let m = home(&self.homes, id) as usize;
         self.domains[m].ask(id, ticks)
     }

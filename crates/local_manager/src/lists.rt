@@ -42,43 +42,69 @@ fn push<T: Drop>(list: &mut Roomy<T>, item: T) -> Result<(), Memory>
     Ok(())
 }
 
-/// Of these actors each manager's. Err is want of memory.
-pub(crate) fn share(
-    alloc: Global,
-    homes: &[u32],
-    managers: usize,
-    ids: &[ActorId],
-) -> Result<Vec<Roomy<ActorId>>, Memory>
-    requires some { 0 < managers }
-    requires homes { AllBelow managers homes.now }
-    ensures count { IfOk result (λ lists. length lists.items ≡ managers) }
-    ensures split { IfOk result (λ lists. IsSplit (home_of homes.now) ids.now (map (λ r. r.list) lists.items)) }
+/// Empties each list, and keeps its room.
+pub(crate) fn clear_all(lists: &mut [Roomy<ActorId>])
+    ensures count { length lists.new ≡ length lists.old }
+    ensures empty { (homes : List ℕ) → IsSplit (home_of homes) [] (map (λ r. r.list) lists.new) }
 {
-    let mut lists = empty_lists(alloc, managers)?;
+    for list in lists.iter_mut() {
+        list.clear();
+    }
+}
+
+/// Adds these actors to the lists of their managers, which are empty. Err is want of memory.
+fn share_out(lists: &mut [Roomy<ActorId>], homes: &[u32], ids: &[ActorId]) -> Result<(), Memory>
+    requires empty { IsSplit (home_of homes.now) [] (map (λ r. r.list) lists.old) }
+    requires some { 0 < length lists.old }
+    requires homes { AllBelow (length lists.old) homes.now }
+    ensures count { length lists.new ≡ length lists.old }
+    ensures split { OnOk result (IsSplit (home_of homes.now) ids.now (map (λ r. r.list) lists.new)) }
+{
     for id in ids {
         let m = home(homes, *id) as usize;
         push(&mut lists[m], *id)?;
     }
-    Ok(lists)
+    Ok(())
 }
 
-/// A list for each manager, with room for its actors of a tick. Err is want of memory.
-fn rooms<G: Agenda>(
-    alloc: Global,
+/// Leaves in each list its manager's of these actors. Err is want of memory; all lists are empty then.
+pub(crate) fn share(
+    lists: &mut [Roomy<ActorId>],
+    homes: &[u32],
+    ids: &[ActorId],
+) -> Result<(), Memory>
+    requires some { 0 < length lists.old }
+    requires homes { AllBelow (length lists.old) homes.now }
+    ensures count { length lists.new ≡ length lists.old }
+    ensures split { OnOk result (IsSplit (home_of homes.now) ids.now (map (λ r. r.list) lists.new)) }
+    ensures empty { OnErr result (IsSplit (home_of homes.now) [] (map (λ r. r.list) lists.new)) }
+{
+    clear_all(lists);
+    match share_out(lists, homes, ids) {
+        Ok(()) => Ok(()),
+        Err(_) => {
+            clear_all(lists);
+            Err(Memory)
+        }
+    }
+}
+
+/// Makes room in each list for its manager's actors of a tick. Err is want of memory.
+fn reserve_due<G: Agenda>(
+    lists: &mut [Roomy<ActorId>],
     domains: &[Domain<G>],
     tick: u64,
-) -> Result<Vec<Roomy<ActorId>>, Memory>
-    ensures count { IfOk result (λ lists. length lists.items ≡ length domains.now) }
-    ensures rooms { IfOk result (λ lists. (m : ℕ) (p : List Due) (r : Room ActorId) → slice_get domains.now m ≡ Some p
-        → slice_get lists.items m ≡ Some r → (r.list ≡ []) × (length (due_at tick p) ≤ r.spare)) }
+) -> Result<(), Memory>
+    requires count { length lists.old ≡ length domains.now }
+    ensures count { length lists.new ≡ length lists.old }
+    ensures same { map (λ r. r.list) lists.new ≡ map (λ r. r.list) lists.old }
+    ensures room { OnOk result ((m : ℕ) (p : List Due) (r : Room ActorId) → slice_get domains.now m ≡ Some p
+        → slice_get lists.new m ≡ Some r → length (due_at tick p) ≤ r.spare) }
 {
-    let mut lists = Vec::with_capacity(alloc, domains.len())?;
-    for domain in domains {
-        let mut list = Roomy::new(alloc);
-        list.reserve(domain.due(tick))?;
-        lists.push(list)?;
+    for m in 0..domains.len() {
+        lists[m].reserve(domains[m].due(tick))?;
     }
-    Ok(lists)
+    Ok(())
 }
 
 /// Takes a tick out of each agenda, and appends who asked for it to its list.
@@ -94,19 +120,24 @@ fn take_each<G: Agenda>(domains: &mut [Domain<G>], lists: &mut [Roomy<ActorId>],
     }
 }
 
-/// Each manager's actors of a tick, which is taken out. Err is want of memory, and changes nothing.
+/// Leaves in each list its manager's actors of a tick, which is taken out. Err is want of memory; all
+/// lists are empty then, and the agendas are as they were.
 pub(crate) fn take_all<G: Agenda>(
-    alloc: Global,
-    domains: &mut Vec<Domain<G>>,
+    domains: &mut [Domain<G>],
+    lists: &mut [Roomy<ActorId>],
     tick: u64,
-) -> Result<Vec<Roomy<ActorId>>, Memory>
-    ensures left { OnOk result (domains.new.items ≡ map (λ p. without_tick tick p) domains.old.items) }
-    ensures taken { IfOk result (λ lists. map (λ r. r.list) lists.items ≡ map (λ p. due_at tick p) domains.old.items) }
-    ensures err { OnErr result (domains.new.items ≡ domains.old.items) }
+) -> Result<(), Memory>
+    requires count { length lists.old ≡ length domains.old }
+    ensures count { length lists.new ≡ length lists.old }
+    ensures left { OnOk result (domains.new ≡ map (λ p. without_tick tick p) domains.old) }
+    ensures taken { OnOk result (map (λ r. r.list) lists.new ≡ map (λ p. due_at tick p) domains.old) }
+    ensures same { OnErr result (domains.new ≡ domains.old) }
+    ensures empty { OnErr result ((homes : List ℕ) → IsSplit (home_of homes) [] (map (λ r. r.list) lists.new)) }
 {
-    let mut lists = rooms(alloc, domains, tick)?;
-    take_each(domains, &mut lists, tick);
-    Ok(lists)
+    clear_all(lists);
+    reserve_due(lists, domains, tick)?;
+    take_each(domains, lists, tick);
+    Ok(())
 }
 
 /// How many actors stand in all lists.

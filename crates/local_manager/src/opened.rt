@@ -1,4 +1,4 @@
-ghost use Rattle.std.specs.Prelude.{◌≡◌, ◌+◌, ◌<◌, ◌≤◌, ◌++◌, [], ◌==◌, false, length, if◌then◌else◌, nat_lt, slice_get, slice_range, slice_set, OnOk, IfOk};
+ghost use Rattle.std.specs.Prelude.{◌≡◌, ◌+◌, ◌<◌, ◌≤◌, ◌++◌, [], ◌==◌, false, length, if◌then◌else◌, nat_lt, slice_get, slice_range, slice_set, OnOk};
 ghost use Rattle.std.specs.List.{All};
 ghost use Rattle.std.specs.Option.{option_map_or};
 ghost use Rattle.sim_base.specs.declared.ids.ActorId.{ActorId};
@@ -55,6 +55,9 @@ pub(crate) fn inbox_in<'a>(letters: &'a [Letter], spans: &[Span], to: ActorId) -
     requires { IsIndexed letters.now spans.now }
     ensures { result.now ≡ inbox_of letters.now to }
 {
+    if letters.is_empty() {
+        return &[];
+    }
     let Some(span) = span_of(spans, to) else {
         return &[];
     };
@@ -151,33 +154,34 @@ fn keep_span(spans: &mut [Span], to: ActorId, start: usize, end: usize)
     }
 }
 
-/// Drains the lists of all these, each in the order of its inbox, and keeps where each inbox stands.
-/// Err is want of memory; some may be drained then.
+/// The lists of all these, each in the order of its inbox, take the place of the opened letters, and it is
+/// kept where each inbox stands. Err is want of memory; some may be drained then.
 fn open_boxes(
     alloc: Global,
     store: &mut LetterStore,
+    opened: &mut Roomy<Letter>,
     spans: &mut [Span],
     called: &[ActorId],
     creators: &[ActorId],
     precedence: &Precedence<'_>,
-) -> Result<Roomy<Letter>, Memory>
+) -> Result<(), Memory>
     requires called { All (λ id. id.0 < length spans.old) called.now }
     requires creators { Ascend creators.now }
     requires addressed { IsAddressed store.old }
     requires ordered { IsOrdered precedence.now creators.now store.old }
-    ensures inboxes { IfOk result (λ opened. (to : ActorId) → inbox_of opened.list to
+    ensures inboxes { OnOk result ((to : ActorId) → inbox_of opened.new.list to
         ≡ (if is_among called.now to then in_order precedence.now (list_of store.old to.0) else [])) }
     ensures left { OnOk result ((to : ActorId) → list_of store.new to.0 ≡ (if is_among called.now to then [] else list_of store.old to.0)) }
-    ensures indexed { IfOk result (λ opened. IsIndexed opened.list spans.new) }
+    ensures indexed { OnOk result (IsIndexed opened.new.list spans.new) }
 {
-    let mut opened = Roomy::new(alloc);
+    opened.clear();
     for to in called {
         let start = opened.len();
-        open_box(alloc, store, &mut opened, *to, creators, precedence)?;
+        open_box(alloc, store, opened, *to, creators, precedence)?;
         let end = opened.len();
         keep_span(spans, *to, start, end);
     }
-    Ok(opened)
+    Ok(())
 }
 
 /// Makes room for the spans of so many actors. Err is want of memory, and changes nothing.
@@ -190,24 +194,25 @@ pub(crate) fn grow_spans(spans: &mut Vec<Span>, count: usize) -> Result<(), Memo
     Ok(())
 }
 
-/// Drains the lists of all these, each in the order of its inbox, and keeps where each inbox stands, for
-/// which there is room. Err is want of memory; some may be drained then.
+/// The lists of all these, each in the order of its inbox, take the place of the opened letters, and it is
+/// kept where each inbox stands, for which there is room. Err is want of memory; some may be drained then.
 pub(crate) fn open_all(
     alloc: Global,
     store: &mut LetterStore,
+    opened: &mut Roomy<Letter>,
     spans: &mut Vec<Span>,
     called: &[ActorId],
     creators: &[ActorId],
     precedence: &Precedence<'_>,
-) -> Result<Roomy<Letter>, Memory>
+) -> Result<(), Memory>
     requires called { All (λ id. id.0 < length spans.old.items) called.now }
     requires creators { Ascend creators.now }
     requires addressed { IsAddressed store.old }
     requires ordered { IsOrdered precedence.now creators.now store.old }
-    ensures inboxes { IfOk result (λ opened. (to : ActorId) → inbox_of opened.list to
+    ensures inboxes { OnOk result ((to : ActorId) → inbox_of opened.new.list to
         ≡ (if is_among called.now to then in_order precedence.now (list_of store.old to.0) else [])) }
     ensures left { OnOk result ((to : ActorId) → list_of store.new to.0 ≡ (if is_among called.now to then [] else list_of store.old to.0)) }
-    ensures indexed { IfOk result (λ opened. IsIndexed opened.list spans.new.items) }
+    ensures indexed { OnOk result (IsIndexed opened.new.list spans.new.items) }
 {
-    open_boxes(alloc, store, spans, called, creators, precedence)
+    open_boxes(alloc, store, opened, spans, called, creators, precedence)
 }

@@ -61,12 +61,12 @@ fn apply<A: Drop, G: Agenda + Drop>(
 pub(crate) fn apply_all<A: Drop, G: Agenda + Drop>(
     states: &mut Vec<Option<A>>,
     directory: &mut Directory<G>,
-    reports: Vec<Report<A>>,
+    reports: &mut Vec<Report<A>>,
 ) -> Result<(), Memory>
-    ensures states { OnOk result (states.new.items ≡ fold put_state states.old.items reports.items) }
-    ensures agenda { OnOk result (directory.new ≡ record directory.old { agenda = fold ask_of directory.old.agenda reports.items }) }
+    ensures states { OnOk result (states.new.items ≡ fold put_state states.old.items reports.old.items) }
+    ensures agenda { OnOk result (directory.new ≡ record directory.old { agenda = fold ask_of directory.old.agenda reports.old.items }) }
 {
-    for report in reports {
+    for report in reports.drain(..) {
         apply(states, directory, report)?;
     }
     Ok(())

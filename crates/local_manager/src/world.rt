@@ -19,7 +19,7 @@ use crate::cast::{copy_members, first_members};
 use crate::directory::Directory;
 use crate::opened::{contains, grow_spans, inbox_in, open_all};
 use crate::states::{first_states, is_alive, living, living_state};
-use crate::{Phase, Span};
+use crate::{Phase, Room, Span};
 use actor_trait::{Actor, Context, Event, Letter, Precedence};
 use agenda::Agenda;
 use inbox_order::Inboxes;
@@ -29,6 +29,7 @@ use sim_base::{ActorId, Items, ManagerId, Memory, Moment, Roomy};
 use sim_model::{Member, Parameters, Settled, Setup};
 use std::alloc::Global;
 use std::marker::Model;
+use std::mem;
 
 /// The world, kept by managers. Contracts see the one world of the definitions, with the letters of the
 /// moment closed last in an order of their own, in which each inbox is the same.
@@ -56,6 +57,7 @@ pub struct World<A: Actor, G: Agenda> {
     pub(crate) dead_letters: u64,
     pub(crate) moment: Moment,
     pub(crate) phase: Phase,
+    pub(crate) room: Room<A>,
 }
 
 impl<A: Actor, G: Agenda> Model for World<A, G> {
@@ -150,6 +152,7 @@ impl<A: Actor + Drop, G: Agenda + Drop> World<A, G> {
             dead_letters: 0,
             moment: Moment { tick: 0, diasca: 0 },
             phase: Phase::Opening,
+            room: Room::new(alloc),
         })
     }
 
@@ -184,15 +187,16 @@ impl<A: Actor + Drop, G: Agenda + Drop> World<A, G> {
             sent: self.moment,
             urgent: self.parameters.urgent.as_slice(),
         };
-        self.opened = open_all(
+        open_all(
             self.alloc,
             &mut self.store,
+            &mut self.opened,
             &mut self.spans,
             &self.called,
             &self.creators,
             &precedence,
         )?;
-        self.directory.schedule(self.alloc, &self.called)?;
+        self.directory.schedule(&self.called)?;
         self.moment = at;
         self.phase = Phase::Entered;
         Ok(())
@@ -208,8 +212,8 @@ impl<A: Actor + Drop, G: Agenda + Drop> World<A, G> {
     {
         self.phase = Phase::Torn;
         let ids = living(self.alloc, &self.states)?;
-        self.directory.schedule(self.alloc, &ids)?;
-        self.opened = Roomy::new(self.alloc);
+        self.directory.schedule(&ids)?;
+        self.opened.clear();
         self.moment = at;
         self.phase = Phase::Entered;
         Ok(())
@@ -224,8 +228,8 @@ impl<A: Actor + Drop, G: Agenda + Drop> World<A, G> {
         ensures torn { OnErr result (self.new.phase ≡ phase.Torn) }
     {
         self.phase = Phase::Torn;
-        self.directory.take_tick(self.alloc, at.tick)?;
-        self.opened = Roomy::new(self.alloc);
+        self.directory.take_tick(at.tick)?;
+        self.opened.clear();
         self.moment = at;
         self.phase = Phase::Entered;
         Ok(())
@@ -253,6 +257,16 @@ impl<A: Actor + Drop, G: Agenda + Drop> World<A, G> {
                 retired,
             } => self.close_with(kept, born, letters, retired, inboxes),
         }
+    }
+
+    /// The room that the lists of the moment closed last had. It takes no memory.
+    pub fn take_room(&mut self) -> Room<A>
+        ensures world { self.new ≡ self.old }
+        ensures reports { result.reports.items ≡ [] }
+    {
+        let mut room = mem::replace(&mut self.room, Room::new(self.alloc));
+        room.reports.clear();
+        room
     }
 
     /// The actors that are scheduled at a manager, ascending. Empty unless a moment is entered.
@@ -364,12 +378,22 @@ impl<A: Actor + Drop, G: Agenda + Drop> World<A, G> {
         ensures home { result.0 ≡ route_in self.now id }
         ensures within { result.0 < managers_of self.now }
     {
+        if self.directory.managers() == 1 {
+            return ManagerId(0);
+        }
         let home = self.directory.home(id);
         if is_alive(&self.states, id) {
             ManagerId(home)
         } else {
             ManagerId(0)
         }
+    }
+
+    /// Everybody that there was, ascending. It takes no memory.
+    pub fn into_cast(self) -> Items<Member>
+        ensures { result ≡ self.one.cast }
+    {
+        Items::of(self.cast)
     }
 
     /// Everybody so far, ascending. Err is want of memory.

@@ -79,12 +79,12 @@ invariant_of-self-2 g c =
     let can : CanEnter v c.args.at = rw (← c.self.view_is) at c.requires.next in
     let ready = later_ready g.A.Actor.meaning v c.args.at s.store s.opened.list s.spans.items s.called.items s.creators.items refl c.self.invariant can
     c.requires.later in
-    let got = rw (c.deref.ensures.value, c.as_slice.ensures) at c.in_ok-self-inside.ensures.inboxes in
-    let left = rw c.deref.ensures.value at c.in_ok-self-inside.ensures.left in
+    let got = rw (c.deref.ensures.value, c.as_slice.ensures) at c.in_ok-open_all.ensures.inboxes in
+    let left = rw c.deref.ensures.value at c.in_ok-open_all.ensures.left in
     rw (c.in_ok-schedule.ensures.ok, c.deref-3.ensures.value)
-    (later_sound g.A.Actor.meaning v c.args.at s.store c.open_all.new.store c.in_ok-self-inside.field-0.list c.open_all.new.spans.items s.called.items
+    (later_sound g.A.Actor.meaning v c.args.at s.store c.open_all.new.store c.open_all.new.opened.list c.open_all.new.spans.items s.called.items
     s.creators.items ready c.requires.later got left
-    c.in_ok-self-inside.ensures.indexed)
+    c.in_ok-open_all.ensures.indexed)
 
 pub returns-clause-entered : goal.returns-clause-entered
 returns-clause-entered g c =
@@ -109,8 +109,8 @@ returns-clause-entered g c =
     let can : CanEnter v c.args.at = rw (← c.self.view_is) at c.requires.next in
     let ready = later_ready g.A.Actor.meaning v c.args.at s.store s.opened.list s.spans.items s.called.items s.creators.items refl c.self.invariant can
     c.requires.later in
-    let got = rw (c.deref.ensures.value, c.as_slice.ensures) at c.in_ok-self-inside.ensures.inboxes in
-    let left = rw c.deref.ensures.value at c.in_ok-self-inside.ensures.left in
+    let got = rw (c.deref.ensures.value, c.as_slice.ensures) at c.in_ok-open_all.ensures.inboxes in
+    let left = rw c.deref.ensures.value at c.in_ok-open_all.ensures.left in
     rw (← c.self.view_is, c.in_ok-schedule.ensures.ok, c.deref-3.ensures.value)
-    (later_entered g.A.Actor.meaning v c.args.at s.store c.open_all.new.store c.in_ok-self-inside.field-0.list s.called.items s.creators.items ready
+    (later_entered g.A.Actor.meaning v c.args.at s.store c.open_all.new.store c.open_all.new.opened.list s.called.items s.creators.items ready
     c.requires.later got left)

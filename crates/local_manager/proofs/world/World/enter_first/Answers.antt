@@ -31,5 +31,5 @@ invariant_of-self-2 g c =
     let can : CanEnter v c.args.at = rw (← c.self.view_is) at c.requires.next in
     let ready = first_ready g.A.Actor.meaning v c.args.at s.store s.opened.list s.spans.items s.called.items s.creators.items refl c.self.invariant can
     c.requires.diasca in
-    rw (c.in_ok-schedule.ensures.ok, c.deref-2.ensures.value, c.in_ok-ids.ensures, c.deref.ensures.value, c.new.ensures.list)
+    rw (c.in_ok-schedule.ensures.ok, c.deref-2.ensures.value, c.in_ok-ids.ensures, c.deref.ensures.value, c.clear.ensures.list)
     (first_sound g.A.Actor.meaning v c.args.at s.store s.spans.items ready.0 ready.1 c.requires.diasca c.requires.tick)

@@ -27,5 +27,5 @@ invariant_of-self-2 g c =
     let can : CanEnter v c.args.at = rw (← c.self.view_is) at c.requires.next in
     let ready = first_ready g.A.Actor.meaning v c.args.at s.store s.opened.list s.spans.items s.called.items s.creators.items refl c.self.invariant can
     c.requires.diasca in
-    rw (c.in_ok-take_tick.ensures.ok, c.new.ensures.list) (tick_sound g.A.Actor.meaning v c.args.at s.store s.spans.items ready.0 ready.1
+    rw (c.in_ok-take_tick.ensures.ok, c.clear.ensures.list) (tick_sound g.A.Actor.meaning v c.args.at s.store s.spans.items ready.0 ready.1
     c.requires.diasca c.requires.tick)

@@ -1,6 +1,6 @@
 -- The letters that are sent, and the inboxes of some of them.
 use Rattle.std.proofs.Common.{◌≡◌, ℕ, ◌+◌, ◌<◌, ◌≤◌, Bool, true, false, ◌||◌, not, cond, nat_lt, List, [], ◌∷◌, ◌++◌, length, get_or, take}
-use Rattle.std.proofs.Common.{Option, Some, None, is_some, is_none, append-nil, eqb-true, refl, sym, ap, ◌∙◌, arith}
+use Rattle.std.proofs.Common.{Option, Some, None, is_some, is_none, append-nil, append_assoc, eqb-true, refl, sym, ap, ◌∙◌, arith}
 use Rattle.std.specs.List.{filter, flat_map}
 use Rattle.std.specs.Option.{option_or}
 use Rattle.std.proofs.lemmas.Bool.Decides.{nat_tests}
@@ -62,16 +62,18 @@ module _ {A : Type 0} (m : Meaning A) (p : Placed A) where
       ap (flat_map sends_of) (filter-append (λ r. is_calm m p r.outcome) rs qs)
       ∙ flat_map-append sends_of (filter (λ r. is_calm m p r.outcome) rs) (filter (λ r. is_calm m p r.outcome) qs)
 
-  -- the letters that pass a test, of one report more
-  pub sent_next : (q : Letter → Bool) (rs : List (Report A)) (i : ℕ) (r : Report A) (before after : List Letter) → i < length rs → r ≡ get_or rs i r
-      → before ≡ filter q (letters_sent m p (take i rs)) → after ≡ before ++ filter q (letters_sent m p (r ∷ []))
-      → after ≡ filter q (letters_sent m p (take (i + 1) rs))
-  sent_next q rs i r before after lt is was more =
+  -- the letters that pass a test, of one report more, after those in front
+  pub sent_next : (q : Letter → Bool) (rs : List (Report A)) (i : ℕ) (r : Report A) (front before after : List Letter) → i < length rs
+      → r ≡ get_or rs i r → before ≡ front ++ filter q (letters_sent m p (take i rs)) → after ≡ before ++ filter q (letters_sent m p (r ∷ []))
+      → after ≡ front ++ filter q (letters_sent m p (take (i + 1) rs))
+  sent_next q rs i r front before after lt is was more =
       more ∙ ap (λ l. l ++ filter q (letters_sent m p (r ∷ []))) was
-      ∙ sym (filter-append q (letters_sent m p (take i rs)) (letters_sent m p (r ∷ [])))
+      ∙ append_assoc front (filter q (letters_sent m p (take i rs))) (filter q (letters_sent m p (r ∷ [])))
+      ∙ ap (λ l. front ++ l)
+      (sym (filter-append q (letters_sent m p (take i rs)) (letters_sent m p (r ∷ [])))
       ∙ ap (filter q) (sym (sent_append (take i rs) (r ∷ [])))
       ∙ ap (λ x. filter q (letters_sent m p (take i rs ++ x ∷ []))) is
-      ∙ ap (λ l. filter q (letters_sent m p l)) (sym (take_more rs i r lt))
+      ∙ ap (λ l. filter q (letters_sent m p l)) (sym (take_more rs i r lt)))
 
 -- ---- the inboxes of the actors of some managers
 

@@ -1,5 +1,5 @@
 -- What a hand may do that has done nothing.
-use Rattle.std.proofs.Common.{◌≡◌, ℕ, true, [], refl, ap, sym}
+use Rattle.std.proofs.Common.{◌≡◌, ℕ, true, false, [], refl, ap, sym, Result, Ok, Err, OnOk, is_err}
 use Rattle.std.proofs.lemmas.List.Elements.{All-nil}
 use Rattle.actor_trait.specs.Meaning.{Meaning}
 use Rattle.quiet_core.specs.Account.{Account, Shape, blank, opened, done}
@@ -25,3 +25,10 @@ tells_nothing m p a new = record {
   scheduled = All-nil (λ r. is_among p.world.scheduled r.id ≡ true);
   posted = λ k n lk ln. new.none_posted k n lk ln;
 }
+
+-- what holds of a success holds where there is no failure
+pub held_unless_err : {T F : Type 0} (r : Result T F) (P : Type 0) → is_err r ≡ false → OnOk r P → P
+held_unless_err (Ok x) P calm held = held
+held_unless_err (Err e) P calm held = absurd (clash calm) where
+  clash : true ≡ false → ⊥
+  clash z = cc

@@ -1,19 +1,38 @@
-ghost use Rattle.std.specs.Prelude.{◌≡◌, ◌+◌, ◌≤◌, true, replicate, vec_len, IfOk};
+ghost use Rattle.std.specs.Prelude.{◌≡◌, ◌+◌, ◌≤◌, [], true, replicate, vec_len, IfOk};
 ghost use Rattle.std.specs.List.{All};
 ghost use Rattle.quiescence.specs.Joint.{new_hand};
 ghost use Rattle.work_claims.specs.Placed.{FitsRound};
 ghost use Rattle.work_claims.specs.Together.{Worked};
 
 use crate::acted::Acted;
-use crate::acting::act_phase;
+use crate::acting::act_in;
 use crate::scene::Scene;
 use crate::seats::{Seat, seats_of};
 use actor_trait::Actor;
 use quiescence::{Hand, Round};
 use sim_base::{Gate, Items, Memory};
+use sim_model::Report;
 use std::alloc::Global;
 use std::thread;
 use std::thread::Threads;
+
+/// The act phase of a new hand, with its reports in room that others had.
+fn act_seat_in<A: Actor + Drop, W: Scene<A>, T: Gate>(
+    alloc: Global,
+    room: Vec<Report<A>>,
+    world: &W,
+    round: &Round,
+    seat: Seat,
+    gate: &T,
+) -> Acted<A>
+    requires room { room.items ≡ [] }
+    requires entered { (W.placed world.now).entered ≡ true }
+    requires fits { FitsRound (W.placed world.now) round.now.shape }
+    requires new { seat.hand ≡ new_hand round.now }
+    ensures { Worked A.meaning (W.placed world.now) round.now 1 result }
+{
+    act_in(alloc, room, world, round, seat.hand, seat.number, gate)
+}
 
 /// The act phase of a new hand.
 fn act_seat<A: Actor + Drop, W: Scene<A>, T: Gate>(
@@ -28,7 +47,7 @@ fn act_seat<A: Actor + Drop, W: Scene<A>, T: Gate>(
     requires new { seat.hand ≡ new_hand round.now }
     ensures { Worked A.meaning (W.placed world.now) round.now 1 result }
 {
-    act_phase(alloc, world, round, seat.hand, seat.number, gate)
+    act_seat_in(alloc, Vec::new(alloc), world, round, seat, gate)
 }
 
 /// The act phases of new hands, side by side. Err is want of memory.
@@ -102,11 +121,13 @@ pub(crate) fn act_together<
 >(
     rt: &R,
     alloc: Global,
+    room: Vec<Report<A>>,
     world: &W,
     round: &Round,
     mut hands: Vec<Hand>,
     gate: &T,
 ) -> Result<Acted<A>, Memory>
+    requires room { room.items ≡ [] }
     requires entered { (W.placed world.now).entered ≡ true }
     requires fits { FitsRound (W.placed world.now) round.now.shape }
     requires some { 1 ≤ round.now.shape.hands }
@@ -118,7 +139,8 @@ pub(crate) fn act_together<
         let Some(hand) = hands.pop() else {
             unreachable!()
         };
-        return Ok(act_seat(alloc, world, round, Seat { hand, number: 0 }, gate));
+        let seat = Seat { hand, number: 0 };
+        return Ok(act_seat_in(alloc, room, world, round, seat, gate));
     }
     let seats = seats_of(alloc, hands)?;
     let mut all = act_seats(rt, alloc, world, round, seats, gate)?;

@@ -1,4 +1,4 @@
-ghost use Rattle.std.specs.Prelude.{◌≡◌, ◌≢◌, ℕ, ◌≤◌, ◌<◌, true, false, ◌⊎◌, length, OnOk, IfOk};
+ghost use Rattle.std.specs.Prelude.{◌≡◌, ◌≢◌, ℕ, ◌≤◌, ◌<◌, [], true, false, ◌⊎◌, length, OnOk, IfOk};
 ghost use Rattle.quiet_core.specs.Account.{has_met, mark, reported};
 ghost use Rattle.work_claims.specs.Acting.{AtRest, Ended, IsNew, Keeps, OneOpen, Others, Tells, frees};
 ghost use Rattle.work_claims.specs.Placed.{FitsRound, IsMeant, IsPlaced, id_at, scheduled_at};
@@ -200,6 +200,15 @@ fn act_all<A: Actor + Drop, W: Scene<A>, T: Gate>(
     act_range(alloc, world, round, pace, hand, (0, home), reports)
 }
 
+/// How many reports a hand asks room for before it acts: an equal share of all.
+fn share_of(round: &Round) -> u32 {
+    let mut scheduled = 0;
+    for m in 0..round.managers() {
+        scheduled += round.scheduled(ManagerId(m as u32));
+    }
+    scheduled / round.hands().max(1)
+}
+
 /// Claims actors and lets them act, at the home manager of the hand first, which is its number modulo
 /// the managers, and then at the others in cyclic order, until all are claimed. Before each claim it
 /// passes the gate. The letters of an actor are announced and posted, and then it is reported; none of
@@ -221,8 +230,33 @@ pub fn act_phase<A: Actor + Drop, W: Scene<A>, T: Gate>(
     ensures tells { Tells A.meaning (W.placed world.now) result.reports result.hand.account }
     ensures ended { result.short ≡ false → Ended (W.placed world.now).managers result.hand.account }
 {
+    act_in(alloc, Vec::new(alloc), world, round, hand, number, gate)
+}
+
+/// The same, with the reports in room that others had.
+pub(crate) fn act_in<A: Actor + Drop, W: Scene<A>, T: Gate>(
+    alloc: Global,
+    mut room: Vec<Report<A>>,
+    world: &W,
+    round: &Round,
+    hand: Hand,
+    number: u32,
+    gate: &T,
+) -> Acted<A>
+    requires room { room.items ≡ [] }
+    requires entered { (W.placed world.now).entered ≡ true }
+    requires of { hand.round ≡ round.now }
+    requires fits { FitsRound (W.placed world.now) round.now.shape }
+    requires new { IsNew (W.placed world.now).managers hand.account }
+    ensures of { result.hand.round ≡ round.now }
+    ensures keeps { Keeps hand.account result.hand.account }
+    ensures tells { Tells A.meaning (W.placed world.now) result.reports result.hand.account }
+    ensures ended { result.short ≡ false → Ended (W.placed world.now).managers result.hand.account }
+{
     let mut hand = hand;
-    let mut reports = Items::new(alloc);
+    // A refusal is no fault: each report asks for its own room.
+    let _ = room.reserve(share_of(round) as usize);
+    let mut reports = Items::of(room);
     let mut pace = Pace::new(gate, number);
     let home = number % world.managers();
     hand.learn();

@@ -5,7 +5,7 @@ ghost use Rattle.work_claims.specs.Placed.{FitsRound};
 ghost use Rattle.work_claims.specs.Together.{AllGathered, Gathered, Helped, IsReady, Phased};
 
 use crate::acted::Collected;
-use crate::collecting::collect_phase;
+use crate::collecting::{collect_in, collect_phase};
 use crate::scene::Scene;
 use crate::seats::{Seat, seats_of};
 use actor_trait::Actor;
@@ -138,6 +138,7 @@ fn collect_dealt<R: Threads + Sync, A: Actor + Sync, W: Scene<A> + Sync>(
 /// The collect phase of the whole, after which each manager is collected. Err is want of memory.
 fn collect_last<A: Actor, W: Scene<A>>(
     alloc: Global,
+    room: Inboxes,
     world: &W,
     reports: &[Report<A>],
     round: &Round,
@@ -154,7 +155,7 @@ fn collect_last<A: Actor, W: Scene<A>>(
         hand,
         inboxes: more,
         short,
-    } = collect_phase(alloc, world, reports, round, hand, 0);
+    } = collect_in(alloc, room, world, reports, round, hand, 0);
     if short {
         return Err(Memory);
     }
@@ -170,6 +171,7 @@ fn collect_last<A: Actor, W: Scene<A>>(
 pub(crate) fn collect_together<R: Threads + Sync, A: Actor + Sync, W: Scene<A> + Sync>(
     rt: &R,
     alloc: Global,
+    room: Inboxes,
     world: &W,
     reports: &[Report<A>],
     round: &Round,
@@ -187,13 +189,13 @@ pub(crate) fn collect_together<R: Threads + Sync, A: Actor + Sync, W: Scene<A> +
             inboxes: Items::new(alloc),
             short: false,
         };
-        let all = collect_last(alloc, world, reports, round, before)?;
+        let all = collect_last(alloc, room, world, reports, round, before)?;
         return Ok(all);
     }
     let before = collect_dealt(rt, alloc, world, reports, round, hand)?;
     if before.short {
         return Err(Memory);
     }
-    let all = collect_last(alloc, world, reports, round, before)?;
+    let all = collect_last(alloc, room, world, reports, round, before)?;
     Ok(all)
 }

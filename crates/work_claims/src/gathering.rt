@@ -63,7 +63,7 @@ fn gather_report<A: Actor, W: Scene<A>>(
     ensures { OnOk result (letters.new.items ≡ letters.old.items
         ++ filter (λ l. get_or mine.now ((W.placed world.now).route l.to) false) (letters_sent A.meaning (W.placed world.now) (report.now ∷ []))) }
 {
-    if fault_of(&report.outcome, world.now()).is_some() {
+    if report.outcome.sends.is_empty() || fault_of(&report.outcome, world.now()).is_some() {
         return Ok(());
     }
     gather_sends(
@@ -78,15 +78,15 @@ fn gather_report<A: Actor, W: Scene<A>>(
 /// The letters of all reports that go to the actors of these managers. One pass over the reports serves
 /// for all of them.
 fn gather<A: Actor, W: Scene<A>>(
-    alloc: Global,
+    mut letters: Vec<Letter>,
     world: &W,
     reports: &[Report<A>],
     mine: &[bool; MANAGERS],
 ) -> Result<Vec<Letter>, Memory>
-    ensures { IfOk result (λ letters. letters.items
-        ≡ filter (λ l. get_or mine.now ((W.placed world.now).route l.to) false) (letters_sent A.meaning (W.placed world.now) reports.now)) }
+    ensures { IfOk result (λ all. all.items
+        ≡ letters.items ++ filter (λ l. get_or mine.now ((W.placed world.now).route l.to) false) (letters_sent A.meaning (W.placed world.now) reports.now)) }
 {
-    let mut letters = Vec::new(alloc);
+    letters.reserve(reports.len())?;
     for report in reports {
         gather_report(&mut letters, world, report, mine)?;
     }
@@ -96,16 +96,18 @@ fn gather<A: Actor, W: Scene<A>>(
 /// The ordered inboxes of letters, as one part, or no part where there is no letter. Err is want of memory.
 fn part_of(
     alloc: Global,
-    letters: &[Letter],
+    mut room: Inboxes,
+    letters: Vec<Letter>,
     precedence: &Precedence<'_>,
 ) -> Result<Items<Inboxes>, Memory>
-    ensures { IfOk result (λ parts. (to : ActorId) → inbox_in parts to ≡ inbox_order letters.now to precedence.now) }
+    ensures { IfOk result (λ parts. (to : ActorId) → inbox_in parts to ≡ inbox_order letters.items to precedence.now) }
 {
     let mut parts = Items::new(alloc);
     if letters.is_empty() {
         return Ok(parts);
     }
-    parts.add(Inboxes::of(alloc, letters, precedence)?)?;
+    room.renew_with(alloc, letters, precedence)?;
+    parts.add(room)?;
     Ok(parts)
 }
 
@@ -120,6 +122,7 @@ fn takes_any(mine: &[bool; MANAGERS]) -> bool
 /// letter. Their keys are made here. Err is want of memory.
 pub(crate) fn inboxes_of<A: Actor, W: Scene<A>>(
     alloc: Global,
+    mut room: Inboxes,
     world: &W,
     reports: &[Report<A>],
     mine: &[bool; MANAGERS],
@@ -132,7 +135,7 @@ pub(crate) fn inboxes_of<A: Actor, W: Scene<A>>(
     if !takes_any(mine) {
         return Ok(Items::new(alloc));
     }
-    let letters = gather(alloc, world, reports, mine)?;
-    let parts = part_of(alloc, &letters, &world.precedence())?;
+    let letters = gather(room.take_room(alloc), world, reports, mine)?;
+    let parts = part_of(alloc, room, letters, &world.precedence())?;
     Ok(parts)
 }

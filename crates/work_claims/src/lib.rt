@@ -6,6 +6,7 @@
 mod act_together;
 mod acted;
 mod acting;
+mod blocks;
 mod collect_together;
 mod collecting;
 mod gathering;
@@ -23,7 +24,8 @@ mod world_scene;
 
 pub use acted::{Acted, Collected};
 pub use acting::act_phase;
+pub use blocks::Blocks;
 pub use collecting::collect_phase;
 pub use harvest::Harvest;
-pub use moment::crew;
+pub use moment::{crew, crew_in};
 pub use scene::Scene;

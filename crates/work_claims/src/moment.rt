@@ -1,4 +1,4 @@
-ghost use Rattle.std.specs.Prelude.{◌≡◌, ◌<◌, ◌≤◌, ℕ, true, length, replicate, slice_index, IfOk};
+ghost use Rattle.std.specs.Prelude.{◌≡◌, ◌<◌, ◌≤◌, ℕ, [], true, length, replicate, slice_index, IfOk};
 ghost use Rattle.std.specs.List.Sorted.{IsNonDecreasingBy, IsPermutation};
 ghost use Rattle.sim_base.specs.declared.ids.ActorId.{ActorId};
 ghost use Rattle.inbox_order.specs.Inboxes.{inbox_of};
@@ -10,12 +10,14 @@ ghost use Rattle.work_claims.specs.Together.{AllGathered, IsReady, Worked};
 
 use crate::act_together::act_together;
 use crate::acted::{Acted, Collected};
+use crate::blocks::Blocks;
 use crate::collect_together::collect_together;
 use crate::harvest::Harvest;
 use crate::scene::Scene;
 use crate::sending::MANAGERS;
 use actor_trait::Actor;
 use inbox_order::Inboxes;
+use local_manager::Room;
 use manager_tree::Tree;
 use quiescence::{Closed, Hand, Round};
 use sim_base::{Gate, Items, ManagerId, Memory};
@@ -39,6 +41,7 @@ fn count_scheduled<A: Actor, W: Scene<A>>(world: &W) -> [u32; MANAGERS]
 /// The round of a moment, with its hands. Err is want of memory.
 fn open<A: Actor, W: Scene<A>>(
     alloc: Global,
+    words: Vec<u64>,
     world: &W,
     tree: &Tree,
     hands: u32,
@@ -53,7 +56,13 @@ fn open<A: Actor, W: Scene<A>>(
     ensures new { IfOk result (λ r. r.1.items ≡ replicate hands (new_hand r.0)) }
 {
     let counts = count_scheduled(world);
-    Round::open(alloc, tree, &counts[..world.managers() as usize], hands)
+    Round::open_on(
+        alloc,
+        words,
+        tree,
+        &counts[..world.managers() as usize],
+        hands,
+    )
 }
 
 /// Whether the reports ascend by actor, as those of one hand at one manager do.
@@ -159,11 +168,40 @@ pub fn crew<R: Threads + Sync, A: Actor + Send + Sync + Drop, W: Scene<A> + Sync
     requires most_hands { hands ≤ 64 }
     ensures { IfOk result (IsHarvest A.meaning (W.placed world.now)) }
 {
+    crew_in(rt, alloc, Blocks::new(alloc), world, tree, hands, gate)
+}
+
+/// The same, in blocks that earlier moments had. What they hold doesn't matter, but that there are no
+/// reports.
+pub fn crew_in<
+    R: Threads + Sync,
+    A: Actor + Send + Sync + Drop,
+    W: Scene<A> + Sync,
+    T: Gate + Sync,
+>(
+    rt: &R,
+    alloc: Global,
+    blocks: Blocks<A>,
+    world: &W,
+    tree: &Tree,
+    hands: u32,
+    gate: &T,
+) -> Result<Harvest<A>, Memory>
+    requires room { blocks.room.reports.items ≡ [] }
+    requires entered { (W.placed world.now).entered ≡ true }
+    requires somebody { 1 ≤ length (W.placed world.now).world.scheduled }
+    requires leaves { tree.now.leaves ≡ (W.placed world.now).managers }
+    requires least_hands { 1 ≤ hands }
+    requires most_hands { hands ≤ 64 }
+    ensures { IfOk result (IsHarvest A.meaning (W.placed world.now)) }
+{
     let _managers = world.managers();
-    let (round, hands) = open(alloc, world, tree, hands)?;
-    let acted = act_together(rt, alloc, world, &round, hands, gate)?;
+    let Blocks { words, room } = blocks;
+    let Room { reports, inboxes } = room;
+    let (round, hands) = open(alloc, words, world, tree, hands)?;
+    let acted = act_together(rt, alloc, reports, world, &round, hands, gate)?;
     let (hand, reports) = in_order(world, &round, acted)?;
-    let collected = collect_together(rt, alloc, world, reports.as_slice(), &round, hand)?;
+    let collected = collect_together(rt, alloc, inboxes, world, reports.as_slice(), &round, hand)?;
     let (closed, parts) = finish(alloc, world, reports.as_slice(), round, collected)?;
     let inboxes = join(alloc, parts)?;
     Ok(Harvest {

@@ -1,7 +1,7 @@
 use Rattle.std.proofs.Common.{ap, ◌∙◌}
 use Rattle.work_claims.specs.Collecting.{inbox_in}
 use Rattle.work_claims.proofs.Closing.{all_inboxes}
-use Rattle.work_claims.proofs.moment.crew.Goals as goal
+use Rattle.work_claims.proofs.moment.crew_in.Goals as goal
 
 pub returns : goal.returns
 returns g c =

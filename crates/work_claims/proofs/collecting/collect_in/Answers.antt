@@ -1,5 +1,5 @@
 use Rattle.work_claims.proofs.CollectsAll.{collected_all, collects_all, collects_turns, inboxes_all, mine_collects, mine_unacked, turns_no_duty}
-use Rattle.work_claims.proofs.collecting.collect_phase.Goals as goal
+use Rattle.work_claims.proofs.collecting.collect_in.Goals as goal
 
 pub take_mine-requires-clause-collects : goal.take_mine-requires-clause-collects
 take_mine-requires-clause-collects g c = mine_collects c.args.round.now.shape c.try_all-mine.result c.args.hand.account

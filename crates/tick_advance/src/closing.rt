@@ -61,7 +61,7 @@ impl<A: Actor + Drop, G: Agenda + Drop> Sim<A, G> {
         match self.position {
             Position::Within(at) => {
                 let _managers = self.world.managers();
-                let _words = self.rounds.add(closed);
+                self.words = self.rounds.add(closed);
                 self.conclude(at, reports, inboxes)
             }
             Position::Before(_) => unreachable!(),

@@ -71,6 +71,9 @@ impl Log {
         ensures given { self.new.given ≡ self.old.given }
     {
         for report in reports {
+            if report.outcome.samples.is_empty() {
+                continue;
+            }
             let manager = world.route(report.id).0 as usize;
             self.add_report(manager, at, report)?;
         }

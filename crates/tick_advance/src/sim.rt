@@ -32,6 +32,8 @@ pub struct Sim<A: Actor, G: Agenda> {
     pub(crate) workers: u32,
     pub(crate) log: Log,
     pub(crate) rounds: Rounds,
+    /// The block of the round closed last, for the next one.
+    pub(crate) words: Vec<u64>,
     pub(crate) position: Position,
 }
 
@@ -64,6 +66,7 @@ impl<A: Actor + Drop, G: Agenda + Drop> Sim<A, G> {
             workers: plan.workers,
             log,
             rounds: Rounds::new(),
+            words: Vec::new(alloc),
             position: Position::Before(Moment { tick: 0, diasca: 0 }),
         })
     }
@@ -116,7 +119,6 @@ impl<A: Actor + Drop, G: Agenda + Drop> Sim<A, G> {
         ensures rounds { IfOk result (λ r. (s : SetupParts A) (k : ℕ) → StandsFor A.meaning s k self → r.1 ≡ rounds_of A.meaning s) }
     {
         let Sim {
-            alloc,
             world,
             log,
             rounds,
@@ -129,10 +131,10 @@ impl<A: Actor + Drop, G: Agenda + Drop> Sim<A, G> {
         Ok((
             Results {
                 rows: log.into_rows()?,
-                cast: world.copy_cast(alloc)?,
                 ending,
                 last: world.now(),
                 dead_letters: world.dead_letters(),
+                cast: world.into_cast(),
             },
             rounds,
         ))

@@ -1,4 +1,4 @@
-ghost use Rattle.std.specs.Prelude.{◌≡◌, ◌+◌, ℕ, true, Ok, is_err, IfOk, OnErr, OnOk};
+ghost use Rattle.std.specs.Prelude.{◌≡◌, ◌+◌, ℕ, [], true, Ok, is_err, IfOk, OnErr, OnOk};
 ghost use Rattle.sim_base.specs.declared.moment.Ending.{Ending};
 ghost use Rattle.sim_base.specs.declared.moment.Moment.{Moment};
 ghost use Rattle.sim_model.specs.Run.{run_after, step};
@@ -16,8 +16,9 @@ use actor_trait::Actor;
 use agenda::Agenda;
 use inbox_order::Inboxes;
 use sim_base::{Gate, Items, Memory, Moment};
+use std::mem;
 use std::thread::Threads;
-use work_claims::crew;
+use work_claims::{Blocks, crew_in};
 
 impl<A: Actor + Send + Sync + Drop, G: Agenda + Send + Sync + Drop> Sim<A, G> {
     /// One moment: it is entered, all that are scheduled act by as many hands as the work pays for, and it
@@ -88,9 +89,21 @@ impl<A: Actor + Send + Sync + Drop, G: Agenda + Send + Sync + Drop> Sim<A, G> {
         }
         let is_first = self.rounds.numbers()[0] == 0;
         let hands = hands_for(self.workers, scheduled, is_first);
-        match crew(rt, self.alloc, &self.world, &self.tree, hands, gate) {
+        let blocks = self.take_blocks();
+        match crew_in(rt, self.alloc, blocks, &self.world, &self.tree, hands, gate) {
             Ok(harvest) => self.advance(harvest.closed, harvest.reports, harvest.inboxes),
             Err(_) => self.lose(),
+        }
+    }
+
+    /// The blocks that the lists of the moment closed last had, and those of its round. It takes no memory.
+    fn take_blocks(&mut self) -> Blocks<A>
+        ensures same { self.new ≡ self.old }
+        ensures room { result.room.reports.items ≡ [] }
+    {
+        Blocks {
+            words: mem::replace(&mut self.words, Vec::new(self.alloc)),
+            room: self.world.take_room(),
         }
     }
 

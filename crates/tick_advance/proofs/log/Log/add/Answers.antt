@@ -20,6 +20,31 @@ add_report-requires-clause-later g c =
     let report = c.report-item.result in
     subst (λ r. EndsBelow c.loop-report.self c.args.at r.id.0) (sym c.report-item.is) (c.loop-report.invariant.next c.loop-report.report-index report (omega arith) (omega arith))
 
+-- what shows no sample adds no row
+pub loop-report-preserved-then-is_empty : goal.loop-report-preserved-then-is_empty
+loop-report-preserved-then-is_empty g c =
+    let i = c.loop-report.report-index in
+    let report = c.report-item.result in
+    let reports = c.args.reports.now in
+    let before = c.loop-report.self in
+    let rows_by = rows_of c.args.at in
+    let empty : report.outcome.samples ≡ [] = c.is_empty.ensures.0 c.if-is_empty.true in
+    let none : rows_by report ≡ [] = ap (λ samples. rows_by (record report { outcome = record report.outcome { samples = samples } })) empty in
+    record {
+      rows = λ rows h.
+          let more : take (i + 1) reports ≡ take i reports ++ report ∷ [] = take_more reports i report (omega arith) ∙ ap (λ r. take i reports ++ r ∷ []) (sym c.report-item.is) in
+          subst (HasRows before)
+          (sym (append-nil (rows ++ flat_map rows_by (take i reports)))
+          ∙ ap (λ added. (rows ++ flat_map rows_by (take i reports)) ++ added) (sym none)
+          ∙ flat_map_more rows_by rows (take i reports) report
+          ∙ ap (λ rs. rows ++ flat_map rows_by rs) (sym more))
+          (c.loop-report.invariant.rows rows h);
+      next = λ k d low high. c.loop-report.invariant.next k d (omega arith) high;
+      later = c.loop-report.invariant.later;
+      managers = c.loop-report.invariant.managers;
+      given = c.loop-report.invariant.given;
+    }
+
 pub loop-report-preserved : goal.loop-report-preserved
 loop-report-preserved g c =
     let i = c.loop-report.report-index in

@@ -24,7 +24,7 @@ pub returns-in-Within-clause-stage : goal.returns-in-Within-clause-stage
 returns-in-Within-clause-stage g c =
     let s = c.self.inside in
     let old : SimParts g.row.A.Denot = record { world = s.world; log = s.log; rounds = s.rounds; position = s.position } in
-    on_ok c.conclude.result (λ f u h. f u (within_still c.args.self.now old c.add-words.new.self u c.self.view_is h)) c.conclude.ensures.stage
+    on_ok c.conclude.result (λ f u h. f u (within_still c.args.self.now old c.add.new.self u c.self.view_is h)) c.conclude.ensures.stage
 
 pub returns-in-Within-clause-rounds : goal.returns-in-Within-clause-rounds
 returns-in-Within-clause-rounds g c at e =
@@ -37,7 +37,7 @@ returns-in-Within-clause-rounds g c at e =
     let some : 1 ≤ managers_of s.world = omega (arith, c.managers-managers.ensures.count, c.managers-managers.ensures.some) in
     let stood = sym (ap (λ v. v.position) c.self.view_is) ∙ c.in-Within.is in
     c.conclude.ensures.rounds
-    ∙ c.add-words.ensures
+    ∙ c.add.ensures
     ∙ closing_counts m s.world c.args.closed some c.managers-managers.ensures.homes work.harvest.closed s.rounds work.somebody
     ∙ ap (λ t. with_moment m s.world.one t s.rounds) (sound.now ∙ within_same c.args.self.now.position c.in-Within.at at stood e)
     ∙ ap (λ (v : SimParts g.row.A.Denot). with_moment m v.world.one at v.rounds) c.self.view_is
@@ -53,7 +53,7 @@ returns-in-Within-clause-stands g c =
     let now = sym (ap (λ v. v.world.moment) c.self.view_is) ∙ sound.now in
     on_ok c.conclude.result
     (λ f setup k h. stands_next m setup k c.args.self.now c.conclude.new.self at stood now
-    (λ u w. f u (within_still c.args.self.now old c.add-words.new.self u c.self.view_is w)) (returns-in-Within-clause-rounds g c at stood) h)
+    (λ u w. f u (within_still c.args.self.now old c.add.new.self u c.self.view_is w)) (returns-in-Within-clause-rounds g c at stood) h)
     c.conclude.ensures.stage
 
 pub returns-in-Within-clause-step : goal.returns-in-Within-clause-step
@@ -61,10 +61,10 @@ returns-in-Within-clause-step g c =
     let m = g.A.Actor.meaning in
     let s = c.self.inside in
     let old : SimParts g.row.A.Denot = record { world = s.world; log = s.log; rounds = s.rounds; position = s.position } in
-    let counted : SimParts g.row.A.Denot = record { world = s.world; log = s.log; rounds = c.add-words.new.self; position = s.position } in
+    let counted : SimParts g.row.A.Denot = record { world = s.world; log = s.log; rounds = c.add.new.self; position = s.position } in
     if_ok (λ went. (u : Underway g.row.A.Denot) → IsWithin counted u → went ≡ step_to (step m u))
     (λ went. (setup : SetupParts g.row.A.Denot) (k : ℕ) → StandsWithin m setup k c.args.self.now → went ≡ step_to (run_after m setup (k + 1)))
     c.conclude.result
     (λ went f setup k h. step_next m setup k c.args.self.now went
-    (λ u w. f u (within_still c.args.self.now old c.add-words.new.self u c.self.view_is w)) h)
+    (λ u w. f u (within_still c.args.self.now old c.add.new.self u c.self.view_is w)) h)
     c.conclude.ensures.step

@@ -15,7 +15,7 @@ returns-clause-run g c = λ s k for.
       h.end,
       h.whole,
       results_are h.end _ _ c.in-Ended.ending c.now.result c.dead_letters.result (c.in_ok-into_rows.ensures h.end.rows over.rows)
-          (c.in_ok-copy_cast.ensures ∙ over.cast) ending (c.now.ensures ∙ over.now) (c.dead_letters.ensures ∙ over.dead_letters),
+          (c.into_cast.ensures ∙ over.cast) ending (c.now.ensures ∙ over.now) (c.dead_letters.ensures ∙ over.dead_letters),
     )
 
 pub returns-clause-rounds : goal.returns-clause-rounds

@@ -5,6 +5,7 @@ pub mod FieldTurns
 pub mod GeneratedFacts
 pub mod Law
 pub mod Lists
+pub mod Places
 pub mod Placing
 pub mod PrintTurns
 pub mod Printable
@@ -13,3 +14,4 @@ pub mod ReadFits
 pub mod Trees
 pub mod Turns
 pub mod Unknown
+pub mod Writing

@@ -8,8 +8,10 @@ pub mod Fields
 pub mod Format
 pub mod Generated
 pub mod Names
+pub mod Pieces
 pub mod Print
 pub mod Reading
+pub mod RefusalLine
 pub mod ScenarioParts
 pub mod Selection
 pub mod Table

@@ -1,6 +1,8 @@
 ghost use Rattle.std.specs.Prelude.{◌≡◌, ◌≤◌, length, take};
 
-use sim_base::{Memory, Name};
+use crate::formatter_out::FormatterOut;
+use crate::refusal_line::{write_field, write_place, write_refusal};
+use sim_base::Name;
 use std::alloc::{AllocError, AllocFailed};
 use std::fmt;
 use std::marker::Model;
@@ -51,21 +53,10 @@ impl FieldText {
     }
 }
 
-/// A byte of a field's name, or `?` where it isn't printable ASCII.
-fn shown(byte: u8) -> char {
-    match byte {
-        b' '..=b'~' => char::from(byte),
-        _ => '?',
-    }
-}
-
 impl fmt::Display for FieldText {
     /// The bytes, with `?` for each that isn't printable ASCII.
     fn fmt<W: fmt::Write>(&self, f: &mut fmt::Formatter<W>) -> fmt::Result {
-        for byte in self.as_bytes() {
-            f.write_char(shown(*byte))?;
-        }
-        Ok(())
+        Ok(write_field(&mut FormatterOut::new(f), self)?)
     }
 }
 
@@ -82,15 +73,7 @@ pub struct Place {
 impl fmt::Display for Place {
     /// The field of the whole; else `actor`, its number, and the field where it has a name.
     fn fmt<W: fmt::Write>(&self, f: &mut fmt::Formatter<W>) -> fmt::Result {
-        let field = &self.field;
-        let actor = self.actor;
-        if actor == 0 {
-            write!(f, "{field}")
-        } else if field.as_bytes().is_empty() {
-            write!(f, "actor {actor}")
-        } else {
-            write!(f, "actor {actor} {field}")
-        }
+        Ok(write_place(&mut FormatterOut::new(f), self)?)
     }
 }
 
@@ -122,24 +105,9 @@ pub enum Refusal {
 }
 
 impl fmt::Display for Refusal {
-    /// What a line says of a refused scenario, in pieces and without memory.
+    /// What its line says, in the same pieces and without memory.
     fn fmt<W: fmt::Write>(&self, f: &mut fmt::Formatter<W>) -> fmt::Result {
-        match self {
-            Refusal::NotJson => write!(f, "not JSON"),
-            Refusal::Missing(place) => write!(f, "missing {place}"),
-            Refusal::WrongType(place) => write!(f, "wrong type {place}"),
-            Refusal::OutOfRange(place, value) => write!(f, "out of range {place} {value}"),
-            Refusal::BadName(id) => write!(f, "bad name of actor {id}"),
-            Refusal::Twice(name) => {
-                let text = str::from_utf8(name.as_bytes()).unwrap_or("");
-                write!(f, "name twice {text}")
-            }
-            Refusal::UnknownKind(id) => write!(f, "unknown kind of actor {id}"),
-            Refusal::UnknownField(place) => write!(f, "unknown field {place}"),
-            Refusal::UnknownActor(place) => write!(f, "unknown actor {place}"),
-            Refusal::BadRule(number) => write!(f, "bad rule {number}"),
-            Refusal::TooManyActors(number) => write!(f, "too many actors {number}"),
-        }
+        Ok(write_refusal(&mut FormatterOut::new(f), self)?)
     }
 }
 

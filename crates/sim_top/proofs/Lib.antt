@@ -2,7 +2,6 @@ pub mod Clauses
 pub mod Endings
 pub mod Numbers
 pub mod Pairs
-pub mod Places
 pub mod Rounds
 pub mod Taking
 pub mod Trying

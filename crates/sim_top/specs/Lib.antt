@@ -2,7 +2,6 @@ pub mod Chosen
 pub mod Clauses
 pub mod Commands
 pub mod Lines
-pub mod Pieces
 pub mod Statuses
 pub mod Tasks
 pub mod Verdicts

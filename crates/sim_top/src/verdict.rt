@@ -2,11 +2,12 @@ ghost use Rattle.std.specs.Prelude.{◌≡◌};
 ghost use Rattle.quiescence.specs.Rounds.{no_rounds};
 ghost use Rattle.sim_top.specs.Lines.{Told, line_for, ran, ran_for};
 
-use crate::lines::{write, write_refusal_line, write_too_long_line, write_words_line};
+use crate::lines::{write_refusal_line, write_too_long_line, write_words_line};
 use crate::reading::{InputRefusal, Reading};
 use crate::top::Ran;
 use crate::words::WordsRefusal;
 use quiescence::Rounds;
+use scenario::write_piece;
 use sim_base::{Sink, Status};
 
 /// What a call came to.
@@ -65,9 +66,9 @@ impl Verdict {
             Verdict::Words(refusal) => write_words_line(err, *refusal),
             Verdict::Refused(refusal) => write_refusal_line(err, refusal),
             Verdict::TooLong(reading) => write_too_long_line(err, *reading),
-            Verdict::InputFault => write(err, b"input fault\n"),
-            Verdict::OutputFault(_) => write(err, b"output fault\n"),
-            Verdict::NoMemory => write(err, b"no memory\n"),
+            Verdict::InputFault => write_piece(err, b"input fault\n"),
+            Verdict::OutputFault(_) => write_piece(err, b"output fault\n"),
+            Verdict::NoMemory => write_piece(err, b"no memory\n"),
         };
     }
 }

@@ -8,4 +8,4 @@ line_is : (r : Reading) → too_long_line r ≡ codes "scenario: too long\n"
 line_is reading.Scenario = refl
 
 pub returns : goal.returns
-returns g c = rw (line_is c.args.reading) c.write.ensures
+returns g c = rw (line_is c.args.reading) c.write_piece.ensures

@@ -13,10 +13,10 @@ pub returns-in-TooLong : goal.returns-in-TooLong
 returns-in-TooLong g c = rw c.in-TooLong.is (tried g.E.Sink.written g.E.Sink.faults _ _ c.write_too_long_line.result (too_long_line c.in-TooLong.reading) c.write_too_long_line.ensures)
 
 pub returns-in-InputFault : goal.returns-in-InputFault
-returns-in-InputFault g c = rw c.in-InputFault.is (tried g.E.Sink.written g.E.Sink.faults _ _ c.write.result (codes "input fault\n") c.write.ensures)
+returns-in-InputFault g c = rw c.in-InputFault.is (tried g.E.Sink.written g.E.Sink.faults _ _ c.write_piece.result (codes "input fault\n") c.write_piece.ensures)
 
 pub returns-in-OutputFault : goal.returns-in-OutputFault
-returns-in-OutputFault g c = rw c.in-OutputFault.is (tried g.E.Sink.written g.E.Sink.faults _ _ c.write-in-OutputFault.result (codes "output fault\n") c.write-in-OutputFault.ensures)
+returns-in-OutputFault g c = rw c.in-OutputFault.is (tried g.E.Sink.written g.E.Sink.faults _ _ c.write_piece-in-OutputFault.result (codes "output fault\n") c.write_piece-in-OutputFault.ensures)
 
 pub returns-in-NoMemory : goal.returns-in-NoMemory
-returns-in-NoMemory g c = rw c.in-NoMemory.is (tried g.E.Sink.written g.E.Sink.faults _ _ c.write-in-NoMemory.result (codes "no memory\n") c.write-in-NoMemory.ensures)
+returns-in-NoMemory g c = rw c.in-NoMemory.is (tried g.E.Sink.written g.E.Sink.faults _ _ c.write_piece-in-NoMemory.result (codes "no memory\n") c.write_piece-in-NoMemory.ensures)

@@ -1,9 +1,9 @@
 use Rattle.std.proofs.Common.{◌++◌, codes}
 use Rattle.std.specs.Fmt.{decimal}
 use Rattle.std.proofs.lemmas.Result.{err_from_is_err_and}
-use Rattle.sim_top.specs.Lines.{field_text}
-use Rattle.sim_top.proofs.Trying.{broke_first, writes_more}
-use Rattle.sim_top.proofs.lines.write_actor.Goals as goal
+use Rattle.scenario.specs.RefusalLine.{field_text}
+use Rattle.scenario.proofs.Writing.{broke_first, writes_more}
+use Rattle.scenario.proofs.refusal_line.write_actor.Goals as goal
 
 pub returns-in_err-write_numbered : goal.returns-in_err-write_numbered
 returns-in_err-write_numbered g c =

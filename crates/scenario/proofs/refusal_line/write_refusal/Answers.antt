@@ -1,4 +1,4 @@
-use Rattle.sim_top.proofs.lines.write_refusal.Goals as goal
+use Rattle.scenario.proofs.refusal_line.write_refusal.Goals as goal
 
 pub returns-in-BadName : goal.returns-in-BadName
 returns-in-BadName g c = rw c.in-BadName.is (rw c.from.ensures at c.write_numbered.ensures)

@@ -1,6 +1,6 @@
 use Rattle.std.proofs.Common.{◌≡◌, length, map, take}
-use Rattle.sim_top.specs.Lines.{shown}
-use Rattle.sim_top.proofs.lines.write_field.Given as goal
+use Rattle.scenario.specs.RefusalLine.{shown}
+use Rattle.scenario.proofs.refusal_line.write_field.Given as goal
 
 abbrev pub invariant-loop-at : goal.invariant-loop-at
 invariant-loop-at g l = record {

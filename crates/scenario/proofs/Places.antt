@@ -3,7 +3,7 @@ use Rattle.std.proofs.Common.{◌≡◌, ℕ, ◌==◌, List, [], ◌∷◌, ◌
 use Rattle.std.proofs.lemmas.Bool.{eqb-true}
 use Rattle.std.proofs.lemmas.Bool.Decides.{nat_tests}
 use Rattle.scenario.specs.declared.refusal.Place.{Place}
-use Rattle.sim_top.specs.Lines.{actor_text, field_text, place_text, shown}
+use Rattle.scenario.specs.RefusalLine.{actor_text, field_text, place_text, shown}
 
 pub of_whole : (p : Place) → p.actor ≡ 0 → place_text p ≡ map shown p.field
 of_whole p h = rw h refl

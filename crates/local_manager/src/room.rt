@@ -7,7 +7,7 @@ use std::alloc::Global;
 /// Room for the lists of a moment, which those of an earlier one had.
 #[derive(Drop)]
 pub struct Room<A> {
-    /// For the reports. What it holds doesn't matter.
+    /// For the reports; there are none in it where it is handed on (`World::take_room`).
     pub reports: Vec<Report<A>>,
     /// For the inboxes. What it holds doesn't matter.
     pub inboxes: Inboxes,

@@ -4,7 +4,7 @@ use meaning_tests::{LISTENER, Puppet};
 use placement::Policy;
 use scenario::{AnyActor, Scenario};
 use sim_base::{ActorId, Items, Name, Row};
-use sim_model::{Member, Results, Setup, Start, plain_run};
+use sim_model::{Kind, Member, Results, Setup, Start, plain_run};
 use std::alloc::Global;
 use std::process::Abort;
 use std::test::Fail;
@@ -131,11 +131,14 @@ fn driven<A: Actor + Drop>(
     }
 }
 
+fn same_kind(kind: &Kind, other: &Kind) -> bool {
+    kind.name == other.name && kind.probes.as_slice() == other.probes.as_slice()
+}
+
 fn same_member(member: &Member, other: &Member) -> bool {
     member.id == other.id
         && member.name == other.name
-        && member.kind == other.kind
-        && member.probes.as_slice() == other.probes.as_slice()
+        && same_kind(member.kind.get(), other.kind.get())
 }
 
 fn same_cast(cast: &[Member], other: &[Member]) -> bool {

@@ -1,6 +1,6 @@
 use result_store::{Rules, text};
 use sim_base::{ActorId, Ending, Items, Moment, Name, Row};
-use sim_model::{Member, Results};
+use sim_model::{Kind, Member, Results, SharedKind};
 use std::alloc::Global;
 use std::test::Fail;
 
@@ -43,8 +43,13 @@ fn member(alloc: Global, id: u32, name: &str, probes: &[&str]) -> Result<Member,
     Ok(Member {
         id: ActorId(id),
         name: Name::read(name.as_bytes()).ok_or("a name")?,
-        kind: Name::word("kind"),
-        probes: Items::of(names),
+        kind: SharedKind::new(
+            alloc,
+            Kind {
+                name: Name::word("kind"),
+                probes: Items::of(names),
+            },
+        )?,
     })
 }
 

@@ -44,10 +44,8 @@ fn are_rows(rows: &[Row], expected: &[(u64, u32, u32, u32, i64)]) -> bool {
 /// Whether both name the same actors.
 pub(crate) fn is_same_cast(cast: &[Member], other: &[Member]) -> bool {
     cast.len() == other.len()
-        && cast
-            .iter()
-            .zip(other)
-            .all(|(a, b)| (a.id, a.name, a.kind) == (b.id, b.name, b.kind))
+        && cast.iter().zip(other).all(|(a, b)| (a.id, a.name, a.kind.get().name)
+            == (b.id, b.name, b.kind.get().name))
 }
 
 /// What a run gave is what one thread gives, and what is expected.

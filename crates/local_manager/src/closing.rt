@@ -15,7 +15,6 @@ ghost use Rattle.local_manager.specs.declared.phase.Phase.TheVariants as phase;
 
 use crate::actors::{admit_all, retire_all};
 use crate::called::{creators_of, ids_of, put_called};
-use crate::cast::add_members;
 use crate::directory::Directory;
 use crate::posting::deliver;
 use crate::states::{add_newborn, apply_all};
@@ -25,7 +24,7 @@ use agenda::Agenda;
 use inbox_order::Inboxes;
 use placement::Policy;
 use sim_base::{ActorId, Items, Memory};
-use sim_model::{Member, Newborn, Report};
+use sim_model::{Member, Newborn, Report, add_members};
 use std::alloc::Global;
 
 impl<A: Actor + Drop, G: Agenda + Drop> World<A, G> {

@@ -5,7 +5,6 @@
 
 mod actors;
 mod called;
-mod cast;
 mod closing;
 mod directory;
 mod domain;

@@ -15,7 +15,6 @@ ghost use Rattle.sim_model.specs.Whole.{IsWhole};
 ghost use Rattle.local_manager.specs.declared.phase.Phase.TheVariants as phase;
 
 use crate::actors::admit_first;
-use crate::cast::{copy_members, first_members};
 use crate::directory::Directory;
 use crate::opened::{contains, grow_spans, inbox_in, open_all};
 use crate::states::{first_states, is_alive, living, living_state};
@@ -26,7 +25,7 @@ use inbox_order::Inboxes;
 use inbox_store::LetterStore;
 use placement::Policy;
 use sim_base::{ActorId, Items, ManagerId, Memory, Moment, Roomy};
-use sim_model::{Member, Parameters, Settled, Setup};
+use sim_model::{Member, Parameters, Settled, Setup, copy_cast, opening_cast};
 use std::alloc::Global;
 use std::marker::Model;
 use std::mem;
@@ -128,7 +127,7 @@ impl<A: Actor + Drop, G: Agenda + Drop> World<A, G> {
         } = setup;
         let mut directory = Directory::new(alloc, managers)?;
         admit_first(&mut directory, policy, actors.as_slice())?;
-        let cast = first_members(alloc, actors.as_slice())?;
+        let cast = opening_cast(alloc, actors.as_slice())?;
         let states = first_states(alloc, actors.into_vec())?;
         Ok(World {
             alloc,
@@ -400,7 +399,7 @@ impl<A: Actor + Drop, G: Agenda + Drop> World<A, G> {
     pub fn copy_cast(&self, alloc: Global) -> Result<Items<Member>, Memory>
         ensures { IfOk result (λ cast. cast ≡ self.now.one.cast) }
     {
-        Ok(Items::of(copy_members(alloc, &self.cast)?))
+        Ok(Items::of(copy_cast(alloc, &self.cast)?))
     }
 }
 

@@ -33,7 +33,7 @@ series_from rules rows m n [] = []
 series_from rules rows m n (probe ∷ probes) = series_text rules rows m n probe ++ series_from rules rows m (n + 1) probes
 
 abbrev pub member_text : List RuleParts → List Row → Member → List ℕ
-member_text rules rows m = series_from rules rows m 0 m.probes
+member_text rules rows m = series_from rules rows m 0 m.kind.probes
 
 abbrev pub ending_text : Ending → List ℕ
 ending_text Exhausted = codes "exhausted"

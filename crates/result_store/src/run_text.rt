@@ -112,10 +112,10 @@ fn add_member(
     member: &Member,
 ) -> Result<(), Memory>
     requires linked { AreSeries chains.now }
-    requires covered { length member.now.probes ≤ (span_of chains.now.spans.items member.now.id.0).len }
+    requires covered { length member.now.kind.probes ≤ (span_of chains.now.spans.items member.now.id.0).len }
     ensures { OnOk result (text.new.items ≡ text.old.items ++ member_text rules.now chains.now.rows.now member.now) }
 {
-    for (n, probe) in member.probes.as_slice().iter().enumerate() {
+    for (n, probe) in member.kind.get().probes.as_slice().iter().enumerate() {
         add_kept(text, rules, chains, member, n, probe)?;
     }
     Ok(())

@@ -104,7 +104,7 @@ are_reports {A} m law w at living fits = record {
   fit a r e =
       let did = acted m law w at a r e in
       let entry = zip_get m w.cast w.states (a.0 - 1) (Some did.state) fits (stands w.states a did.state did.stood).at in
-      (entry.0, ap (λ i. slice_get w.cast (i.0 - 1)) did.id ∙ entry.1, (entry.2.0 ∙ sym did.kind, entry.2.1 ∙ sym did.probes))
+      (entry.0, ap (λ i. slice_get w.cast (i.0 - 1)) did.id ∙ entry.1, rw (did.kind, did.probes) entry.2)
 
 -- ---- states and cast
 

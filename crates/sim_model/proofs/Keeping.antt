@@ -238,7 +238,7 @@ zip_length R (x ∷ xs) (y ∷ ys) h = ap (λ n. suc n) (zip_length R xs ys h.1)
 
 born_fit : {A : Type 0} (m : Meaning A) (born : List (Newborn A)) → AllZip (Fits m) (map (member_born m) born) (map (λ b. Some b.state) born)
 born_fit m [] = tt
-born_fit m (b ∷ born) = ((refl, refl), born_fit m born)
+born_fit m (b ∷ born) = (refl, born_fit m born)
 
 member_ids : {A : Type 0} (m : Meaning A) (born : List (Newborn A)) → map (λ c. c.id) (map (member_born m) born) ≡ map (λ b. b.id) born
 member_ids m [] = refl
@@ -273,8 +273,8 @@ pub record EntryOf {A : Type 0} (m : Meaning A) (cast : List Member) (id : Actor
   pub entry : Member
   pub there : slice_get cast (id.0 - 1) ≡ Some entry
   pub number : entry.id.0 ≡ id.0
-  pub kind : entry.kind ≡ m.kind a
-  pub probes : entry.probes ≡ m.probes a
+  pub kind : entry.kind.name ≡ m.kind a
+  pub probes : entry.kind.probes ≡ m.probes a
 
 pub living_entry : {A : Type 0} (m : Meaning A) (states : List (Option A)) (cast : List Member) (id : ActorId) (a : A)
     → IsCastOf m states cast → state_of states id ≡ Some a → EntryOf m cast id a
@@ -282,7 +282,7 @@ living_entry {A} m states cast id a h e =
     let s = stands states id a e in
     let found = zip_get m cast states (id.0 - 1) (Some a) h.fits s.at in
     let number = numbered_get cast 1 (id.0 - 1) found.0 h.numbered found.1 in
-    record { entry = found.0; there = found.1; number = omega (arith, number, s.numbered); kind = found.2.0; probes = found.2.1 }
+    record { entry = found.0; there = found.1; number = omega (arith, number, s.numbered); kind = ap (λ k. k.name) found.2; probes = ap (λ k. k.probes) found.2 }
 
 -- ---- a whole world
 
@@ -353,7 +353,7 @@ start_numbered m (s ∷ starts) n = (refl, start_numbered m starts (n + 1))
 start_fits : {A : Type 0} (m : Meaning A) (starts : List (Start A)) (n : ℕ)
     → AllZip (Fits m) (members_from m n starts) (map (λ a. Some a.state) starts)
 start_fits m [] n = tt
-start_fits m (s ∷ starts) n = ((refl, refl), start_fits m starts (n + 1))
+start_fits m (s ∷ starts) n = (refl, start_fits m starts (n + 1))
 
 opening_parameters : {A : Type 0} (s : SetupParts A) → IsSetup s → AreParameters (map (λ a. Some a.state) s.actors) (parameters_of s)
 opening_parameters {A} s setup =

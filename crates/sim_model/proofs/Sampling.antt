@@ -61,7 +61,7 @@ rows_sampled {A} m max next at cast (r ∷ rs) none fit positive =
           All-map (IsSampled cast) (λ s. record { at = at; actor = r.id; probe = s.probe; value = s.value }) r.outcome.samples
           (All-weaker (λ s. s.probe < length (m.probes r.outcome.state))
           (λ s. IsSampled cast (record { at = at; actor = r.id; probe = s.probe; value = s.value }))
-          (λ s lt. (entry.0, entry.1, omega (arith, first), omega (arith, lt, ap (λ l. length l) entry.2.1))) r.outcome.samples
+          (λ s lt. (entry.0, entry.1, omega (arith, first), omega (arith, lt, ap (λ k. length k.probes) entry.2))) r.outcome.samples
           (all_known _ r.outcome.samples known))
 
 same_moment : (at : Moment) (r q : Row) → r.at ≡ at → q.at ≡ at → r.actor.0 ≤ q.actor.0 → RowOrder r q

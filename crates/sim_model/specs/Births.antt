@@ -4,6 +4,7 @@ use Rattle.sim_base.specs.Names.{born_name}
 use Rattle.sim_base.specs.declared.ids.ActorId.{ActorId}
 use Rattle.actor_trait.specs.Meaning.{Meaning}
 use Rattle.actor_trait.specs.declared.letter.Letter.{Letter}
+use Rattle.sim_model.specs.Cast.{kind_of}
 use Rattle.sim_model.specs.declared.births.Newborn.{Newborn}
 use Rattle.sim_model.specs.declared.cast.Member.{Member}
 use Rattle.sim_model.specs.declared.report.Report.{Report}
@@ -40,4 +41,4 @@ abbrev pub without_births : {A : Type 0} → Report A → Report A
 without_births r = record r { outcome = record r.outcome { births = [] } }
 
 abbrev pub member_born : {A : Type 0} → Meaning A → Newborn A → Member
-member_born m b = record { id = b.id; name = b.name; kind = m.kind b.state; probes = m.probes b.state }
+member_born m b = record { id = b.id; name = b.name; kind = kind_of m b.state }

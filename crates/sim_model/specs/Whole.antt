@@ -9,6 +9,7 @@ use Rattle.actor_trait.specs.Meaning.{Meaning}
 use Rattle.actor_trait.specs.declared.letter.Letter.{Letter}
 use Rattle.agenda.specs.Dues.{Rises}
 use Rattle.agenda.specs.declared.due.Due.{Due}
+use Rattle.sim_model.specs.Cast.{kind_of}
 use Rattle.sim_model.specs.Moment.{enter, is_alive, reports}
 use Rattle.sim_model.specs.Run.{run_after}
 use Rattle.sim_model.specs.SetupParts.{SetupParts}
@@ -53,7 +54,7 @@ Numbered n (id ∷ ids) = (id.0 ≡ n) × Numbered (n + 1) ids
 -- a living actor has the kind and the probes of its entry
 abbrev pub Fits : {A : Type 0} → Meaning A → Member → Option A → Type 0
 Fits m c None = Unit {0}
-Fits m c (Some a) = (c.kind ≡ m.kind a) × (c.probes ≡ m.probes a)
+Fits m c (Some a) = c.kind ≡ kind_of m a
 
 -- an entry for each number so far, in order
 pub record IsCastOf {A : Type 0} (m : Meaning A) (states : List (Option A)) (cast : List Member) : Type 0 where
@@ -99,7 +100,7 @@ RowOrder r q = IsNotLater r.at q.at × (r.at ≡ q.at → r.actor.0 ≤ q.actor.
 
 -- of one of the probes of somebody in the cast
 abbrev pub IsSampled : List Member → Row → Type 0
-IsSampled cast row = (c : Member) × (slice_get cast (row.actor.0 - 1) ≡ Some c) × (1 ≤ row.actor.0) × (row.probe < length c.probes)
+IsSampled cast row = (c : Member) × (slice_get cast (row.actor.0 - 1) ≡ Some c) × (1 ≤ row.actor.0) × (row.probe < length c.kind.probes)
 
 pub record AreRows (cast : List Member) (rows : List Row) : Type 0 where
   pub ordered : AllPairs RowOrder rows

@@ -1,8 +1,7 @@
 ghost use Rattle.std.specs.Prelude.{◌≡◌, ◌++◌, ◌+◌, ◌≤◌, ◌^◌, length, map, None, Some, IfErr, IfOk, OnOk};
-ghost use Rattle.sim_model.specs.Births.{birth_letter, births_from, births_of_moment, member_born, next_after, without_births};
+ghost use Rattle.sim_model.specs.Births.{birth_letter, births_from, births_of_moment, next_after, without_births};
 ghost use Rattle.sim_model.specs.Moment.{first_fault, retired};
 
-use crate::cast::{Member, probe_names};
 use crate::{Fault, Report};
 use actor_trait::{Actor, Letter, Payload, fault_among};
 use sim_base::{ActorId, Items, Memory, Moment, Name};
@@ -173,23 +172,4 @@ pub fn birth_letters<A>(alloc: Global, born: &[Newborn<A>]) -> Result<Items<Lett
     let mut letters = Vec::with_capacity(alloc, born.len())?;
     add_birth_letters(&mut letters, born)?;
     Ok(Items::of(letters))
-}
-
-/// Adds the newborn to the cast.
-pub(crate) fn add_members<A: Actor>(
-    alloc: Global,
-    cast: &mut Vec<Member>,
-    born: &[Newborn<A>],
-) -> Result<(), Memory>
-    ensures { OnOk result (cast.new.items ≡ cast.old.items ++ map (member_born A.meaning) born.now) }
-{
-    for newborn in born {
-        cast.push(Member {
-            id: newborn.id,
-            name: newborn.name,
-            kind: Name::word(newborn.state.kind()),
-            probes: probe_names(alloc, &newborn.state)?,
-        })?;
-    }
-    Ok(())
 }

@@ -3,7 +3,8 @@ ghost use Rattle.std.specs.List.{All, AllPairs, flat_map, fold};
 ghost use Rattle.sim_model.specs.Births.{member_born, next_after};
 ghost use Rattle.sim_model.specs.Moment.{agenda_after, ask, ask_of, close, close_with, next_id, put_state, rows_of, states_after};
 
-use crate::births::{add_members, retired, take_all_births};
+use crate::births::{retired, take_all_births};
+use crate::cast::add_members;
 use crate::due_set::DueSet;
 use crate::ids::empty;
 use crate::letters::{collect_letters, keep_living};

@@ -1,7 +1,7 @@
 use crate::due_set::DueSet;
 use crate::{
-    Ended, Fault, Member, Newborn, Next, Parameters, Report, Results, Settled, Setup, Stage, Start,
-    Underway, WorldState,
+    Ended, Fault, Kind, Member, Newborn, Next, Parameters, Report, Results, Settled, Setup, Stage,
+    Start, Underway, WorldState,
 };
 
 fn crosses_threads<T: Send + Sync>() {}
@@ -19,6 +19,7 @@ fn data_crosses_threads<A: Send + Sync>() {
     crosses_threads::<Stage<A>>();
     crosses_threads::<DueSet>();
     crosses_threads::<Fault>();
+    crosses_threads::<Kind>();
     crosses_threads::<Member>();
     crosses_threads::<Next>();
     crosses_threads::<Parameters>();

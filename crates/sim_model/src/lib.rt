@@ -8,6 +8,7 @@ mod closing;
 mod crossing;
 mod due_set;
 mod ids;
+mod kind;
 mod laws;
 mod letters;
 mod moment;
@@ -21,7 +22,8 @@ mod stage;
 mod world;
 
 pub use births::{Newborn, bear_all, birth_letters, count_births, retired};
-pub use cast::Member;
+pub use cast::{Member, add_members, copy_cast, opening_cast};
+pub use kind::{Kind, SharedKind};
 pub use laws::{each_run_ends, each_run_goes_on, each_world_is_whole};
 pub use next::Next;
 pub use parameters::Parameters;

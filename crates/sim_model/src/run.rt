@@ -56,7 +56,7 @@ fn opening<A: Actor + Drop>(alloc: Global, setup: &Setup<A>) -> Result<Underway<
             letters: Items::new(alloc),
             newborn: Items::new(alloc),
             scheduled: Items::new(alloc),
-            cast: opening_cast(alloc, setup.actors.as_slice())?,
+            cast: Items::of(opening_cast(alloc, setup.actors.as_slice())?),
             dead_letters: 0,
         },
         rows: Items::new(alloc),

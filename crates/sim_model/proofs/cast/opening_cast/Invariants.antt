@@ -5,4 +5,4 @@ use Rattle.sim_model.proofs.cast.opening_cast.Given as goal
 abbrev pub invariant-loop-start : goal.invariant-loop-start
 invariant-loop-start g l =
     (l.next ≡ l.start-index + 1)
-    × (l.cast.items ++ members_from g.A.Actor.meaning l.next (drop l.start-index l.actors) ≡ members_from g.A.Actor.meaning 1 l.actors)
+    × (l.cast.items ++ members_from g.A.Actor.meaning l.next (drop l.start-index l.starts) ≡ members_from g.A.Actor.meaning 1 l.starts)

@@ -1,8 +1,0 @@
-use Rattle.std.proofs.Common.{◌≡◌, ◌+◌, drop, ◌++◌}
-use Rattle.sim_model.specs.Cast.{members_from}
-use Rattle.local_manager.proofs.cast.first_members.Given as goal
-
-abbrev pub invariant-loop-start : goal.invariant-loop-start
-invariant-loop-start g l =
-    (l.next ≡ l.start-index + 1)
-    × (l.cast.items ++ members_from g.A.Actor.meaning l.next (drop l.start-index l.starts) ≡ members_from g.A.Actor.meaning 1 l.starts)

@@ -1,5 +1,0 @@
-use Rattle.std.proofs.Common.{◌≡◌, take}
-use Rattle.local_manager.proofs.cast.probe_names.Given as goal
-
-abbrev pub invariant-loop-n : goal.invariant-loop-n
-invariant-loop-n g l = l.names.items ≡ take l.n (g.A.Actor.meaning.probes l.state)

@@ -1,7 +1,9 @@
-ghost use Rattle.std.specs.Prelude.{◌≡◌, ◌++◌, [], map, IsTrue, OnOk, OnErr};
+ghost use Rattle.std.specs.Prelude.{◌≡◌, ◌++◌, [], false, map, IsTrue, OnOk, OnErr};
 ghost use Rattle.std.specs.List.Sorted.{IsSortedBy};
 ghost use Rattle.probes.specs.LiveOrder.{comes_before, ends_before, row_of};
+ghost use Rattle.probes.specs.Kept.{kept_by};
 
+use crate::Sieve;
 use crate::order::is_before;
 use actor_trait::Sample;
 use sim_base::{ActorId, Items, Memory, Moment, Row};
@@ -82,6 +84,64 @@ impl Buffer {
     {
         append(&mut self.rows, at, id, samples)
     }
+
+    /// Appends what a sieve keeps of what an actor sampled at a moment, in order; where it keeps nothing
+    /// it takes no memory. Err is want of memory, and changes nothing.
+    pub fn add_kept<S: Sieve>(
+        &mut self,
+        at: Moment,
+        id: ActorId,
+        samples: &[Sample],
+        sieve: &S,
+    ) -> Result<(), Memory>
+        requires { IsTrue (ends_before self.old at id) }
+        ensures ok { OnOk result (self.new ≡ self.old ++ map (row_of at id) (kept_by (S.keeps sieve.now) id samples.now)) }
+        ensures err { OnErr result (self.new ≡ self.old) }
+    {
+        if keeps_any(sieve, id, samples) {
+            append_kept(&mut self.rows, at, id, samples, sieve)
+        } else {
+            Ok(())
+        }
+    }
+}
+
+/// Whether a sieve keeps any of what an actor sampled.
+fn keeps_any<S: Sieve>(sieve: &S, id: ActorId, samples: &[Sample]) -> bool
+    ensures { result ≡ false → kept_by (S.keeps sieve.now) id samples.now ≡ [] }
+{
+    for sample in samples {
+        if sieve.keeps(id, sample.probe) {
+            return true;
+        }
+    }
+    false
+}
+
+/// Appends the rows of an event that a sieve keeps.
+fn append_kept<S: Sieve>(
+    rows: &mut Vec<Row>,
+    at: Moment,
+    id: ActorId,
+    samples: &[Sample],
+    sieve: &S,
+) -> Result<(), Memory>
+    ensures ok { OnOk result (rows.new.items ≡ rows.old.items ++ map (row_of at id) (kept_by (S.keeps sieve.now) id samples.now)) }
+    ensures err { OnErr result (rows.new.items ≡ rows.old.items) }
+{
+    rows.reserve(samples.len())?;
+    for sample in samples {
+        let Sample { probe, value } = *sample;
+        if sieve.keeps(id, probe) {
+            rows.push_reserved(Row {
+                at,
+                actor: id,
+                probe,
+                value,
+            });
+        }
+    }
+    Ok(())
 }
 
 /// Appends the rows of an event.

@@ -1,5 +1,5 @@
 use actor_trait::Sample;
-use probes::{Buffer, merge};
+use probes::{Buffer, KeepAll, Sieve, merge};
 use sim_base::{ActorId, Memory, Moment};
 use std::alloc::Global;
 use std::test::Fail;
@@ -108,5 +108,72 @@ fn buffers_merge_in_live_order(rt: HostRuntime) -> Result<(), Fail> {
         );
         assert!(rt; rows.iter().all(|row| row.probe == 3));
     }
+    Ok(())
+}
+
+/// Keeps what is sampled at the probe of number 1.
+struct SecondProbe;
+
+impl Sieve for SecondProbe {
+    ghost use Rattle.std.specs.Prelude.{nat_eq};
+
+    ghost keeps = { λ _ _ probe. nat_eq probe 1 };
+
+    fn keeps(&self, _actor: ActorId, probe: u32) -> bool {
+        probe == 1
+    }
+}
+
+/// What an actor samples at its probes 0, 1 and so on.
+fn samples(alloc: Global, values: &[i64]) -> Result<Vec<Sample>, Memory> {
+    let mut samples = Vec::new(alloc);
+    let mut probe = 0;
+    for value in values {
+        samples.push(Sample {
+            probe,
+            value: *value,
+        })?;
+        probe = probe.saturating_add(1);
+    }
+    Ok(samples)
+}
+
+/// Adds what a sieve keeps of an event, if the event is after the last row.
+fn add_kept<S: Sieve>(
+    buffer: &mut Buffer,
+    actor: u32,
+    samples: &[Sample],
+    sieve: &S,
+) -> Result<(), Memory> {
+    let at = Moment { tick: 1, diasca: 0 };
+    if buffer.ends_before(at, ActorId(actor)) {
+        buffer.add_kept(at, ActorId(actor), samples, sieve)?;
+    }
+    Ok(())
+}
+
+#[test]
+fn a_sieve_keeps_some_samples(rt: HostRuntime) -> Result<(), Fail> {
+    let mut buffer = Buffer::new(rt.alloc());
+    add_kept(
+        &mut buffer,
+        1,
+        &samples(rt.alloc(), &[10, 11, 12])?,
+        &SecondProbe,
+    )?;
+    add_kept(&mut buffer, 2, &samples(rt.alloc(), &[20])?, &SecondProbe)?;
+    add_kept(&mut buffer, 3, &samples(rt.alloc(), &[30, 31])?, &KeepAll)?;
+    let rows = buffer.as_slice();
+    assert_eq!(rt; rows.len(), 3);
+    assert!(rt;
+        rows.iter()
+            .zip(&[11, 30, 31])
+            .all(|(row, value)| row.value == *value)
+    );
+    assert!(rt;
+        rows.iter()
+            .zip(&[1, 3, 3])
+            .all(|(row, actor)| row.actor.0 == *actor)
+    );
     Ok(())
 }

@@ -1,7 +1,9 @@
 -- A simulation whose step or tick led to the end stands there.
 use Rattle.std.proofs.Common.{◌≡◌, ℕ, Bool, true, false, cond}
 use Rattle.std.specs.Prelude.{nat_eq}
+use Rattle.sim_base.specs.declared.ids.ActorId.{ActorId}
 use Rattle.sim_base.specs.declared.moment.Ending.{Ending}
+use Rattle.probes.specs.declared.sieve.KeepAll.{KeepAll}
 use Rattle.actor_trait.specs.Meaning.{Meaning}
 use Rattle.sim_model.specs.Run.{run_after}
 use Rattle.sim_model.specs.SetupParts.{SetupParts}
@@ -11,6 +13,10 @@ use Rattle.tick_advance.specs.Standing.{IsAt, SimParts, StandsFor, progress_to, 
 use Rattle.tick_advance.specs.declared.position.Position.TheVariants as position
 use Rattle.tick_advance.specs.declared.position.Progress.TheVariants as progress
 use Rattle.tick_advance.specs.declared.position.Step.TheVariants as step
+
+-- the sieve that keeps all
+abbrev pub keep_all : KeepAll → ActorId → ℕ → Bool
+keep_all sieve actor probe = true
 
 -- its position is an end
 abbrev pub IsOver : {A : Type 0} → SimParts A → Type 0

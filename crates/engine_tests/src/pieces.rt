@@ -7,6 +7,7 @@ use crate::runs::{is_end, is_same_cast};
 use actor_trait::Actor;
 use agenda_wheel::WheelAgenda;
 use placement::Plan;
+use probes::KeepAll;
 use sim_base::OpenGate;
 use sim_model::{Results, Setup};
 use std::process::Abort;
@@ -20,7 +21,7 @@ const MOST: u32 = 20;
 /// A run that is over stays so, and gives what it must.
 fn ends<R: Abort + AllocGlobal + Sync + Threads, A: Actor + Send + Sync + Drop>(
     rt: &R,
-    sim: Sim<A, WheelAgenda>,
+    sim: Sim<A, WheelAgenda, KeepAll>,
     plain: &Results,
     end: &End,
 ) -> Result<(), Fail>
@@ -45,7 +46,7 @@ pub(crate) fn by_ticks<R: Abort + AllocGlobal + Sync + Threads, A: Actor + Send 
     end: &End,
 ) -> Result<(), Fail> {
     let alloc = rt.alloc();
-    let mut sim = Sim::<A, WheelAgenda>::open(alloc, setup, plan)?;
+    let mut sim = Sim::<A, WheelAgenda, _>::open(alloc, setup, plan, KeepAll)?;
     let mut rows = Vec::new(alloc);
     for _tick in 0..MOST {
         let went = sim.tick(rt, &OpenGate)?;
@@ -67,7 +68,7 @@ pub(crate) fn by_moments<R: Abort + AllocGlobal + Sync + Threads, A: Actor + Sen
     plain: &Results,
     end: &End,
 ) -> Result<(), Fail> {
-    let mut sim = Sim::<A, WheelAgenda>::open(rt.alloc(), setup, plan)?;
+    let mut sim = Sim::<A, WheelAgenda, _>::open(rt.alloc(), setup, plan, KeepAll)?;
     for _moment in 0..MOST {
         let went = sim.diasca(rt, &OpenGate)?;
         if let Step::Ended(ending) = went {

@@ -1,19 +1,24 @@
 -- A run that is over stays so, and so do the sums over its moments.
-use Rattle.std.proofs.Common.{◌≡◌, ℕ, zero, suc, ◌+◌, ◌-◌, ◌<◌, ◌≤◌, Bool, true, false, nat_lt, List, ap, arith, refl, sym, ◌∙◌}
+use Rattle.std.proofs.Common.{◌≡◌, ℕ, zero, suc, ◌+◌, ◌-◌, ◌<◌, ◌≤◌, Bool, true, false, nat_lt, List, [], ◌∷◌, ap, arith, refl, subst, sym, ◌∙◌}
 use Rattle.std.proofs.lemmas.Bool.Decides.{nat_tests}
+use Rattle.std.specs.Prelude.{Err, IfOk, Ok, Result}
+use Rattle.sim_base.specs.declared.ids.ActorId.{ActorId}
 use Rattle.sim_base.specs.declared.moment.Ending.{Ending}
 use Rattle.sim_base.specs.declared.moment.Moment.{Moment}
 use Rattle.sim_base.specs.declared.moment.Row.{Row}
 use Rattle.actor_trait.specs.Meaning.{Meaning}
-use Rattle.sim_model.specs.Run.{go_on, most_moments, results_of, run_after, run_from, run_of}
+use Rattle.probes.specs.Kept.{kept_rows}
+use Rattle.sim_model.specs.Run.{IsRun, go_on, most_moments, results_of, run_after, run_from, run_of}
 use Rattle.sim_model.specs.SetupParts.{SetupParts}
 use Rattle.sim_model.specs.Setups.{IsSetup}
 use Rattle.sim_model.specs.declared.cast.Member.{Member}
+use Rattle.sim_model.specs.declared.run.Results.{Results}
 use Rattle.sim_model.specs.declared.stage.Ended.{Ended}
 use Rattle.sim_model.specs.declared.stage.Stage.{Stage}
 use Rattle.sim_model.specs.declared.stage.Stage.TheVariants.{Going, Over}
 use Rattle.sim_model.proofs.Forward.{run_ends, run_goes_on}
 use Rattle.tick_advance.specs.RoundsOf.{rounds_after, rounds_of, with_stage}
+use Rattle.tick_advance.specs.RunKept.{IsRunKept, results_kept}
 use Rattle.tick_advance.specs.Standing.{IsAt, IsOver, SimParts, StandsFor}
 use Rattle.tick_advance.specs.declared.position.Position.TheVariants as position
 
@@ -79,13 +84,26 @@ has_ended {A} m s k v ending stands for = told (run_after m s k) refl for.stage
       rounds = for.rounds ∙ rounds_at_end m s k end for.setup e;
     }
 
--- the results of its parts
-pub results_are : {A : Type 0} (e : Ended A) (rows : List Row) (cast : List Member) (ending : Ending) (last : Moment) (dead : ℕ) → rows ≡ e.rows
-    → cast ≡ e.world.cast → ending ≡ e.ending → last ≡ e.last → dead ≡ e.world.dead_letters
-    → record { rows = rows; cast = cast; ending = ending; last = last; dead_letters = dead } ≡ results_of e
-results_are e rows cast ending last dead r c n l d =
+-- the results of its parts, of which some rows are kept
+pub results_are : {A : Type 0} (keeps : ActorId → ℕ → Bool) (e : Ended A) (rows : List Row) (cast : List Member) (ending : Ending) (last : Moment) (dead : ℕ)
+    → rows ≡ kept_rows keeps e.rows → cast ≡ e.world.cast → ending ≡ e.ending → last ≡ e.last → dead ≡ e.world.dead_letters
+    → record { rows = rows; cast = cast; ending = ending; last = last; dead_letters = dead } ≡ results_kept keeps (results_of e)
+results_are keeps e rows cast ending last dead r c n l d =
     ap (λ x. record { rows = x; cast = cast; ending = ending; last = last; dead_letters = dead }) r
-    ∙ ap (λ x. record { rows = e.rows; cast = x; ending = ending; last = last; dead_letters = dead }) c
-    ∙ ap (λ x. record { rows = e.rows; cast = e.world.cast; ending = x; last = last; dead_letters = dead }) n
-    ∙ ap (λ x. record { rows = e.rows; cast = e.world.cast; ending = e.ending; last = x; dead_letters = dead }) l
-    ∙ ap (λ x. record { rows = e.rows; cast = e.world.cast; ending = e.ending; last = e.last; dead_letters = x }) d
+    ∙ ap (λ x. record { rows = kept_rows keeps e.rows; cast = x; ending = ending; last = last; dead_letters = dead }) c
+    ∙ ap (λ x. record { rows = kept_rows keeps e.rows; cast = e.world.cast; ending = x; last = last; dead_letters = dead }) n
+    ∙ ap (λ x. record { rows = kept_rows keeps e.rows; cast = e.world.cast; ending = e.ending; last = x; dead_letters = dead }) l
+    ∙ ap (λ x. record { rows = kept_rows keeps e.rows; cast = e.world.cast; ending = e.ending; last = e.last; dead_letters = x }) d
+
+-- ---- all rows are kept
+
+all_kept : (rows : List Row) → kept_rows (λ _ _. true) rows ≡ rows
+all_kept [] = refl
+all_kept (r ∷ rows) = ap (λ y. r ∷ y) (all_kept rows)
+
+pub run_kept_all : {A : Type 0} (m : Meaning A) (s : SetupParts A) (r : Results) → IsRunKept m s (λ _ _. true) r → IsRun m s r
+run_kept_all m s r h = subst (λ x. IsRun m s x) (sym (h.2 ∙ ap (λ rows. record h.0 { rows = rows }) (all_kept h.0.rows))) h.1
+
+pub answers_all : {A B F : Type 0} (m : Meaning A) (s : SetupParts A) (r : Result (Results × B) F) → IfOk r (λ x. IsRunKept m s (λ _ _. true) x.0) → IfOk r (λ x. IsRun m s x.0)
+answers_all m s (Ok x) h = run_kept_all m s x.0 h
+answers_all m s (Err e) h = tt

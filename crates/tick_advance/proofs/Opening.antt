@@ -1,6 +1,7 @@
 -- A simulation before its first moment.
-use Rattle.std.proofs.Common.{◌≡◌, ℕ, ◌+◌, ◌≤◌, List, [], ◌∷◌, length, ap, arith, refl, sym, subst, ◌∙◌}
+use Rattle.std.proofs.Common.{◌≡◌, ℕ, Bool, ◌+◌, ◌≤◌, List, [], ◌∷◌, length, ap, arith, refl, sym, subst, ◌∙◌}
 use Rattle.std.proofs.lemmas.List.{length-replicate, length-set}
+use Rattle.sim_base.specs.declared.ids.ActorId.{ActorId}
 use Rattle.sim_base.specs.declared.moment.Moment.{Moment}
 use Rattle.actor_trait.specs.InboxOrder.{inbox_order}
 use Rattle.actor_trait.specs.Meaning.{Meaning}
@@ -38,17 +39,17 @@ first_loads : {A : Type 0} (policy : Policy) (managers : ℕ) (starts : List (St
 first_loads policy managers starts = starts_loads policy (nobody managers) 1 starts ∙ length-replicate managers 0
 
 -- a world that is made of a setup, and no row yet
-pub record IsOpening {A : Type 0} (m : Meaning A) (s : SetupParts A) (managers : ℕ) (policy : Policy) (w : WorldParts A) (l : LogParts) : Type 0 where
+pub record IsOpening {A : Type 0} (m : Meaning A) (s : SetupParts A) (managers : ℕ) (policy : Policy) (keeps : ActorId → ℕ → Bool) (w : WorldParts A) (l : LogParts) : Type 0 where
   pub world : w.one ≡ opening_world m s
   pub placed : w.placed ≡ placed_first policy managers s.actors
   pub now : w.moment ≡ record { tick = 0; diasca = 0 }
   pub phase : w.phase ≡ phase.Opening
-  pub log : l ≡ no_log managers
+  pub log : l ≡ no_log managers keeps
 
-pub opening_sound : {A : Type 0} (m : Meaning A) (s : SetupParts A) (managers leaves workers : ℕ) (policy : Policy) (w : WorldParts A) (l : LogParts)
-    → IsSetup s → IsOpening m s managers policy w l → leaves ≡ managers → 1 ≤ workers → workers ≤ 64
+pub opening_sound : {A : Type 0} (m : Meaning A) (s : SetupParts A) (managers leaves workers : ℕ) (policy : Policy) (keeps : ActorId → ℕ → Bool) (w : WorldParts A) (l : LogParts)
+    → IsSetup s → IsOpening m s managers policy keeps w l → leaves ≡ managers → 1 ≤ workers → workers ≤ 64
     → IsSound w l leaves workers (position.Before (record { tick = 0; diasca = 0 }))
-opening_sound {A} m s managers leaves workers policy w l setup h each some few =
+opening_sound {A} m s managers leaves workers policy keeps w l setup h each some few =
     let count : managers_of w ≡ managers = ap (λ (p : Placed). length p.loads) h.placed ∙ first_loads policy managers s.actors in
     let limit : w.one.parameters.diasca_limit ≡ s.diasca_limit = ap (λ (o : WorldState A). o.parameters.diasca_limit) h.world in
     let none : w.one.agenda ≡ [] = ap (λ (o : WorldState A). o.agenda) h.world in
@@ -59,7 +60,7 @@ opening_sound {A} m s managers leaves workers policy w l setup h each some few =
       at = record {
         due = record {
           limits = record { tick = omega arith; diasca = omega (arith, limit, setup.some_diasca) };
-          rows = subst (λ (k : LogParts). EndsBefore k the_first) (sym h.log) (none_ends managers the_first);
+          rows = subst (λ (k : LogParts). EndsBefore k the_first) (sym h.log) (none_ends managers keeps the_first);
           buffers = ap (λ (k : LogParts). length k.buffers) h.log ∙ length-replicate managers [] ∙ sym count;
           tree = each ∙ sym count;
         };
@@ -68,11 +69,11 @@ opening_sound {A} m s managers leaves workers policy w l setup h each some few =
       };
     }
 
-pub opening_stands : {A : Type 0} (m : Meaning A) (s : SetupParts A) (managers : ℕ) (policy : Policy) (w : WorldParts A) (l : LogParts) → IsSetup s
-    → IsOpening m s managers policy w l
+pub opening_stands : {A : Type 0} (m : Meaning A) (s : SetupParts A) (managers : ℕ) (policy : Policy) (keeps : ActorId → ℕ → Bool) (w : WorldParts A) (l : LogParts)
+    → IsSetup s → IsOpening m s managers policy keeps w l
     → StandsFor m s 0 (record { world = w; log = l; rounds = no_rounds; position = position.Before (record { tick = 0; diasca = 0 }) })
 unfolding run_from rounds_after
-opening_stands {A} m s managers policy w l setup h =
+opening_stands {A} m s managers policy keeps w l setup h =
     let none : w.one.letters ≡ [] = ap (λ (o : WorldState A). o.letters) h.world in
     record {
       setup = setup;
@@ -84,7 +85,7 @@ opening_stands {A} m s managers policy w l setup h =
           world = h.world ∙ sym (ap (λ (letters : List Letter). with_letters (opening_world m s) letters) none);
           letters = λ to. ap (λ (letters : List Letter). inbox_order letters to (sent_at (opening_world m s).parameters the_first)) none;
         };
-        rows = subst (λ (k : LogParts). HasRows k []) (sym h.log) (no_rows managers);
+        rows = subst (λ (k : LogParts). HasRows k []) (sym h.log) (no_rows managers keeps);
       };
       rounds = refl;
     }

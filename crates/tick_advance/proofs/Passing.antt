@@ -1,5 +1,5 @@
 -- Moments that pass, one after the other.
-use Rattle.std.proofs.Common.{◌≡◌, ℕ, true, false, zero, suc, inl, inr, ◌+◌, ◌-◌, ◌<◌, ◌≤◌, List, [], ◌∷◌, length, add-one, ap, arith, refl, sym, subst, ◌∙◌}
+use Rattle.std.proofs.Common.{◌≡◌, ℕ, Bool, true, false, zero, suc, inl, inr, ◌+◌, ◌-◌, ◌<◌, ◌≤◌, List, [], ◌∷◌, length, add-one, ap, arith, refl, sym, subst, ◌∙◌}
 use Rattle.std.proofs.lemmas.Bool.{cases_eq}
 use Rattle.std.specs.Prelude.{Err, Ok, OnOk, Result, is_err}
 use Rattle.std.specs.List.{filter_map}
@@ -25,7 +25,7 @@ use Rattle.tick_advance.specs.Harvests.{AreInboxesSent}
 use Rattle.tick_advance.specs.Log.{LogParts}
 use Rattle.tick_advance.specs.Sound.{IsSoundAt}
 use Rattle.tick_advance.specs.RoundsOf.{rounds_after, with_stage}
-use Rattle.tick_advance.specs.Standing.{IsAt, IsBefore, IsInTick, IsOn, IsWithin, LeadsTo, PassesTick, SimParts, StandsFor, StandsWithin, progress_to, step_to}
+use Rattle.tick_advance.specs.Standing.{IsAt, IsBefore, IsInTick, IsOn, IsWithin, LeadsTo, PassesTick, SievedSim, SimParts, StandsFor, StandsWithin, progress_to, sim_of, step_to}
 use Rattle.tick_advance.specs.declared.position.Position.{Position}
 use Rattle.tick_advance.specs.declared.position.Position.TheVariants as position
 use Rattle.tick_advance.specs.declared.position.Progress.{Progress}
@@ -98,6 +98,7 @@ pub record Steps {A : Type 0} (m : Meaning A) (w x : SimParts A) (to : Step) : T
   pub leads : (at : Moment) → IsOn at w.position → LeadsTo at to x.position
   pub parameters : x.world.one.parameters ≡ w.world.one.parameters
   pub given : x.log.given ≡ w.log.given
+  pub keeps : x.log.keeps ≡ w.log.keeps
   pub ended : (e : Ending) → w.position ≡ position.Ended e → to ≡ went.Ended e
   pub rested : (e : Ending) → w.position ≡ position.Ended e → x ≡ w
   pub kept : w.position ≡ position.Lost → ⊥
@@ -106,25 +107,26 @@ abbrev good : {F : Type 0} → Step → Result Step F
 good to = Ok to
 
 -- ... where a call says so that answered the step
-pub steps_by : {A F : Type 0} (m : Meaning A) (w x : SimParts A) (said to : Step) → said ≡ to
-    → ((s : SetupParts A) (k : ℕ) → StandsFor m s k w → StandsFor m s (k + 1) x)
-    → ((s : SetupParts A) (k : ℕ) → StandsFor m s k w → said ≡ step_to (run_after m s (k + 1)))
+pub steps_by : {A S F : Type 0} (m : Meaning A) (keeps : S → ActorId → ℕ → Bool) (w x : SievedSim A S) (said to : Step) → said ≡ to
+    → ((s : SetupParts A) (k : ℕ) → StandsFor m s k (sim_of keeps w) → StandsFor m s (k + 1) (sim_of keeps x))
+    → ((s : SetupParts A) (k : ℕ) → StandsFor m s k (sim_of keeps w) → said ≡ step_to (run_after m s (k + 1)))
     → ((at : Moment) → IsOn at w.position → LeadsTo at said x.position)
-    → x.world.one.parameters ≡ w.world.one.parameters → x.log.given ≡ w.log.given
+    → x.world.one.parameters ≡ w.world.one.parameters → x.log.given ≡ w.log.given → keeps x.log.sieve ≡ keeps w.log.sieve
     → ((e : Ending) → w.position ≡ position.Ended e → (good {F = F} said ≡ Ok (went.Ended e)) × (x ≡ w))
-    → (w.position ≡ position.Lost → is_err (good {F = F} said) ≡ true) → Steps m w x to
-steps_by {A} {F} m w x said to same stands step leads parameters given ended lost =
-    let told : Steps m w x said = record {
+    → (w.position ≡ position.Lost → is_err (good {F = F} said) ≡ true) → Steps m (sim_of keeps w) (sim_of keeps x) to
+steps_by {A} {S} {F} m keeps w x said to same stands step leads parameters given kept ended lost =
+    let told : Steps m (sim_of keeps w) (sim_of keeps x) said = record {
       stands = stands;
       step = step;
       leads = leads;
       parameters = parameters;
       given = given;
+      keeps = kept;
       ended = λ e over. let same : good {F = F} said ≡ Ok (went.Ended e) = (ended e over).0 in cc;
-      rested = λ e over. (ended e over).1;
+      rested = λ e over. ap (sim_of keeps) (ended e over).1;
       kept = λ gone. let clash : false ≡ true = lost gone in cc;
     } in
-    subst (λ t. Steps m w x t) same told
+    subst (λ t. Steps m (sim_of keeps w) (sim_of keeps x) t) same told
 
 -- so many moments of the tick were closed, and the next one is in it too
 pub record Passed {A : Type 0} (m : Meaning A) (s : SetupParts A) (k : ℕ) (w : SimParts A) : Type 0 where
@@ -136,6 +138,7 @@ pub record Passed {A : Type 0} (m : Meaning A) (s : SetupParts A) (k : ℕ) (w :
 pub record Passes {A : Type 0} (m : Meaning A) (v w : SimParts A) : Type 0 where
   pub stands : (s : SetupParts A) (k : ℕ) → StandsFor m s k v → Passed m s k w
   pub given : w.log.given ≡ v.log.given
+  pub keeps : w.log.keeps ≡ v.log.keeps
   pub ended : (e : Ending) → v.position ≡ position.Ended e → w ≡ v
   pub lost : v.position ≡ position.Lost → w.position ≡ position.Lost
 
@@ -145,6 +148,7 @@ none_passed {A} m v = record {
       let same : k ≡ k + 0 = omega arith in
       record { moments = 0; within = λ i some few. absurd (omega arith); stands = subst (λ n. StandsFor m s n v) same h };
   given = refl;
+  keeps = refl;
   ended = λ e h. refl;
   lost = λ h. h;
 }
@@ -167,6 +171,7 @@ pub more_passed : {A : Type 0} (m : Meaning A) (v w x : SimParts A) → Steps m 
 more_passed {A} m v w x one h = record {
   stands = λ s k at. one_passed m s k w x one (h.stands s k at);
   given = one.given ∙ h.given;
+  keeps = one.keeps ∙ h.keeps;
   ended = λ e over.
       let stays : w.position ≡ position.Ended e = ap (λ (y : SimParts A). y.position) (h.ended e over) ∙ over in
       absurd (let clash : went.NextDiasca ≡ went.Ended e = one.ended e stays in cc);

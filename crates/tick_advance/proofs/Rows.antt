@@ -14,12 +14,13 @@ use Rattle.sim_base.specs.declared.ids.ActorId.{ActorId}
 use Rattle.sim_base.specs.declared.moment.Moment.{Moment}
 use Rattle.sim_base.specs.declared.moment.Row.{Row}
 use Rattle.actor_trait.specs.declared.outcome.Sample.{Sample}
+use Rattle.probes.specs.Kept.{kept_by, kept_rows}
 use Rattle.probes.specs.LiveOrder.{comes_before, ends_before, is_before, row_of, same_event, IsInLiveOrder}
 use Rattle.probes.proofs.Adding.{follows_last, sorted_added}
 use Rattle.probes.proofs.Uniqueness.{same_order}
 use Rattle.probes.proofs.Events.{not_itself, through}
 use Rattle.sim_model.specs.Whole.{IsEarlier}
-use Rattle.tick_advance.specs.Log.{EndsBefore, EndsBelow, HasRows, IsBelow, LogParts, no_log}
+use Rattle.tick_advance.specs.Log.{EndsBefore, EndsBelow, HasRows, IsBelow, LogParts, kept, no_log}
 
 -- ---- rows below an event
 
@@ -231,20 +232,21 @@ lone_is [] b one is = absurd (omega (arith, one))
 lone_is (x ∷ []) b one is = ap (λ z. z ∷ []) (sym is)
 lone_is (x ∷ y ∷ ys) b one is = absurd (omega (arith, one))
 
--- a lone buffer has all rows where none is merged yet
-pub all_alone : (l : LogParts) (b rows : List Row) → l.merged ≡ [] → length l.buffers ≡ 1 → b ≡ get_or l.buffers 0 b → IsSortedBy comes_before b → HasRows l rows → b ≡ rows
+-- a lone buffer has all kept rows where none is merged yet
+pub all_alone : (l : LogParts) (b rows : List Row) → l.merged ≡ [] → length l.buffers ≡ 1 → b ≡ get_or l.buffers 0 b → IsSortedBy comes_before b → HasRows l rows → b ≡ kept l rows
 all_alone l b rows none one is sorted h =
     let pending : h.pending ≡ b = lone_order b h.pending sorted (subst (λ bs. IsInLiveOrder bs h.pending) (lone_is l.buffers b one is) h.live) in
     sym (h.all ∙ ap (λ y. y ++ h.pending) none ∙ pending)
 
 -- behind what is merged come the rows of the buffers, as they are merged
-pub all_merged : (l : LogParts) (new rows : List Row) → ((others : List Row) → IsInLiveOrder l.buffers others → others ≡ new) → HasRows l rows → l.merged ++ new ≡ rows
+pub all_merged : (l : LogParts) (new rows : List Row) → ((others : List Row) → IsInLiveOrder l.buffers others → others ≡ new) → HasRows l rows → l.merged ++ new ≡ kept l rows
 all_merged l new rows only h = sym (h.all ∙ ap (λ y. l.merged ++ y) (only h.pending h.live))
 
-pub has_merged : (l l' : LogParts) (rows : List Row) → l'.merged ≡ rows → l'.buffers ≡ map (λ _. []) l.buffers → l'.given ≤ length l'.merged → HasRows l' rows
-has_merged l l' rows all none given = record {
+pub has_merged : (l l' : LogParts) (rows : List Row) → l'.merged ≡ kept l rows → l'.buffers ≡ map (λ _. []) l.buffers → l'.keeps ≡ l.keeps → l'.given ≤ length l'.merged
+    → HasRows l' rows
+has_merged l l' rows all none keeps given = record {
   pending = [];
-  all = sym all ∙ sym (append-nil l'.merged);
+  all = ap (λ k. kept_rows k rows) keeps ∙ sym all ∙ sym (append-nil l'.merged);
   live = subst (λ bs. IsInLiveOrder bs []) (sym none) (emptied_live l.buffers);
   given = given;
 }
@@ -254,6 +256,18 @@ ends_merged l l' at none =
     subst (All (λ b. All (λ r. IsEarlier r.at at) b)) (sym none) (emptied_all (λ b. All (λ r. IsEarlier r.at at) b) l.buffers (All-nil (λ r. IsEarlier r.at at)))
 
 -- ---- a report is added
+
+-- the rows that are kept are those of the samples that are kept
+pub kept_of_event : (keeps : ActorId → ℕ → Bool) (at : Moment) (id : ActorId) (ss : List Sample)
+    → kept_rows keeps (map (row_of at id) ss) ≡ map (row_of at id) (kept_by keeps id ss)
+kept_of_event keeps at id [] = refl
+kept_of_event keeps at id (s ∷ ss) =
+    ap (λ y. cond (keeps id s.probe) (row_of at id s ∷ y) y) (kept_of_event keeps at id ss) ∙ by (keeps id s.probe)
+  where
+    by : (b : Bool) → cond b (row_of at id s ∷ map (row_of at id) (kept_by keeps id ss)) (map (row_of at id) (kept_by keeps id ss))
+        ≡ map (row_of at id) (cond b (s ∷ kept_by keeps id ss) (kept_by keeps id ss))
+    by true = refl
+    by false = refl
 
 -- the buffer of which an event comes behind all rows can take it
 pub ends_at : (l : LogParts) (m : ℕ) (at : Moment) (id : ActorId) (b : List Row) → m < length l.buffers → b ≡ get_or l.buffers m b → EndsBelow l at id.0 → ends_before b at id ≡ true
@@ -271,20 +285,30 @@ module _ (l l' : LogParts) (m : ℕ) (at : Moment) (id : ActorId) (old b : List 
   old_is : old ≡ get_or l.buffers m []
   old_is = is ∙ get_or_default l.buffers m old [] within
 
-  has_added : b ≡ old ++ map (row_of at id) ss → l'.merged ≡ l.merged → l'.given ≡ l.given → (rows : List Row) → HasRows l rows → HasRows l' (rows ++ map (row_of at id) ss)
-  has_added new merged given rows h = record {
-    pending = h.pending ++ map (row_of at id) ss;
-    all = ap (λ y. y ++ map (row_of at id) ss) h.all ∙ append_assoc l.merged h.pending (map (row_of at id) ss) ∙ ap (λ y. y ++ (h.pending ++ map (row_of at id) ss)) (sym merged);
-    live =
-        let put : l'.buffers ≡ set l.buffers m (get_or l.buffers m [] ++ map (row_of at id) ss) = buffers ∙ ap (λ y. set l.buffers m y) (new ∙ ap (λ y. y ++ map (row_of at id) ss) old_is) in
-        subst (λ bs. IsInLiveOrder bs (h.pending ++ map (row_of at id) ss)) (sym put) (live_added l.buffers m at id h.pending ss within all_before h.live);
-    given = rw (given, merged) h.given;
-  }
+  kept_added : (rows : List Row) → l'.keeps ≡ l.keeps → kept l' (rows ++ map (row_of at id) ss) ≡ kept l rows ++ map (row_of at id) (kept_by l.keeps id ss)
+  kept_added rows keeps =
+      ap (λ k. kept_rows k (rows ++ map (row_of at id) ss)) keeps
+      ∙ filter-append (λ (r : Row). l.keeps r.actor r.probe) rows (map (row_of at id) ss)
+      ∙ ap (λ y. kept l rows ++ y) (kept_of_event l.keeps at id ss)
 
-  pub rows_added : {T E : Type 0} (r : Result T E) → OnOk r (b ≡ old ++ map (row_of at id) ss) → l'.merged ≡ l.merged → l'.given ≡ l.given
+  has_added : b ≡ old ++ map (row_of at id) (kept_by l.keeps id ss) → l'.merged ≡ l.merged → l'.given ≡ l.given → l'.keeps ≡ l.keeps → (rows : List Row) → HasRows l rows
+      → HasRows l' (rows ++ map (row_of at id) ss)
+  has_added is_new merged given keeps rows h =
+      let ks : List Sample = kept_by l.keeps id ss in
+      let new : List Row = map (row_of at id) ks in
+      record {
+        pending = h.pending ++ new;
+        all = kept_added rows keeps ∙ ap (λ y. y ++ new) h.all ∙ append_assoc l.merged h.pending new ∙ ap (λ y. y ++ (h.pending ++ new)) (sym merged);
+        live =
+            let put : l'.buffers ≡ set l.buffers m (get_or l.buffers m [] ++ new) = buffers ∙ ap (λ y. set l.buffers m y) (is_new ∙ ap (λ y. y ++ new) old_is) in
+            subst (λ bs. IsInLiveOrder bs (h.pending ++ new)) (sym put) (live_added l.buffers m at id h.pending ks within all_before h.live);
+        given = rw (given, merged) h.given;
+      }
+
+  pub rows_added : {T E : Type 0} (r : Result T E) → OnOk r (b ≡ old ++ map (row_of at id) (kept_by l.keeps id ss)) → l'.merged ≡ l.merged → l'.given ≡ l.given → l'.keeps ≡ l.keeps
       → OnOk r ((rows : List Row) → HasRows l rows → HasRows l' (rows ++ map (row_of at id) ss))
-  rows_added (Ok done) new merged given = has_added new merged given
-  rows_added (Err refused) new merged given = tt
+  rows_added (Ok done) new merged given keeps = has_added new merged given keeps
+  rows_added (Err refused) new merged given keeps = tt
 
   below_put : All (IsBelow at (id.0 + 1)) b → EndsBelow l' at (id.0 + 1)
   below_put mine =
@@ -298,10 +322,11 @@ module _ (l l' : LogParts) (m : ℕ) (at : Moment) (id : ActorId) (old b : List 
       let mine : All (IsBelow at id.0) old = subst (All (IsBelow at id.0)) (sym is) (All-get_or (λ b. All (IsBelow at id.0) b) l.buffers m old within below) in
       All-weaker (IsBelow at id.0) (IsBelow at (id.0 + 1)) (λ r. below_more at id.0 (id.0 + 1) r (omega arith)) old mine
 
-  pub below_added : {T E : Type 0} (r : Result T E) → OnOk r (b ≡ old ++ map (row_of at id) ss) → OnErr r (b ≡ old) → EndsBelow l' at (id.0 + 1)
+  pub below_added : {T E : Type 0} (r : Result T E) → OnOk r (b ≡ old ++ map (row_of at id) (kept_by l.keeps id ss)) → OnErr r (b ≡ old) → EndsBelow l' at (id.0 + 1)
   below_added (Ok done) new same =
-      let added : All (IsBelow at (id.0 + 1)) (map (row_of at id) ss) = All-map (IsBelow at (id.0 + 1)) (row_of at id) ss (λ k d _. sampled_below at id (get_or ss k d)) in
-      below_put (subst (All (IsBelow at (id.0 + 1))) (sym new) (All-append (IsBelow at (id.0 + 1)) old (map (row_of at id) ss) old_below added))
+      let ks : List Sample = kept_by l.keeps id ss in
+      let added : All (IsBelow at (id.0 + 1)) (map (row_of at id) ks) = All-map (IsBelow at (id.0 + 1)) (row_of at id) ks (λ k d _. sampled_below at id (get_or ks k d)) in
+      below_put (subst (All (IsBelow at (id.0 + 1))) (sym new) (All-append (IsBelow at (id.0 + 1)) old (map (row_of at id) ks) old_below added))
   below_added (Err refused) new same = below_put (subst (All (IsBelow at (id.0 + 1))) (sym same) old_below)
 
 -- ---- a moment is added
@@ -330,8 +355,8 @@ none_live managers = record {
   events = λ row. sym (flat_none (filter (same_event row)) (replicate managers []) (All-replicate (λ b. filter (same_event row) b ≡ []) managers [] refl));
 }
 
-pub no_rows : (managers : ℕ) → HasRows (no_log managers) []
-no_rows managers = record { pending = []; all = refl; live = none_live managers; given = omega arith }
+pub no_rows : (managers : ℕ) (keeps : ActorId → ℕ → Bool) → HasRows (no_log managers keeps) []
+no_rows managers keeps = record { pending = []; all = refl; live = none_live managers; given = omega arith }
 
-pub none_ends : (managers : ℕ) (at : Moment) → EndsBefore (no_log managers) at
-none_ends managers at = All-replicate (λ b. All (λ r. IsEarlier r.at at) b) managers [] (All-nil (λ r. IsEarlier r.at at))
+pub none_ends : (managers : ℕ) (keeps : ActorId → ℕ → Bool) (at : Moment) → EndsBefore (no_log managers keeps) at
+none_ends managers keeps at = All-replicate (λ b. All (λ r. IsEarlier r.at at) b) managers [] (All-nil (λ r. IsEarlier r.at at))

@@ -1,5 +1,5 @@
 -- Where a simulation stands in the run of a setup.
-use Rattle.std.specs.Prelude.{◌≡◌, ◌+◌, ◌<◌, ◌≤◌, ℕ, Option, Some, None, nat_eq, if◌then◌else◌}
+use Rattle.std.specs.Prelude.{◌≡◌, ◌+◌, ◌<◌, ◌≤◌, ℕ, Bool, Option, Some, None, nat_eq, if◌then◌else◌}
 use Rattle.sim_base.specs.declared.ids.ActorId.{ActorId}
 use Rattle.sim_base.specs.declared.moment.Moment.{Moment}
 use Rattle.actor_trait.specs.Meaning.{Meaning}
@@ -15,7 +15,7 @@ use Rattle.sim_model.specs.declared.stage.Underway.{Underway}
 use Rattle.local_manager.specs.Views.{IsSeenAs, WorldParts, with_letters}
 use Rattle.local_manager.specs.declared.phase.Phase.{Phase}
 use Rattle.local_manager.specs.declared.phase.Phase.TheVariants as phase
-use Rattle.tick_advance.specs.Log.{HasRows, LogParts}
+use Rattle.tick_advance.specs.Log.{HasRows, LogParts, SievedLog, log_of}
 use Rattle.tick_advance.specs.RoundsOf.{rounds_after}
 use Rattle.tick_advance.specs.declared.position.Position.{Position}
 use Rattle.tick_advance.specs.declared.position.Position.TheVariants as position
@@ -24,12 +24,22 @@ use Rattle.tick_advance.specs.declared.position.Progress.TheVariants as progress
 use Rattle.tick_advance.specs.declared.position.Step.{Step}
 use Rattle.tick_advance.specs.declared.position.Step.TheVariants as step
 
--- what a contract sees of a simulation
+-- what is told of a simulation
 pub record SimParts (A : Type 0) : Type 0 where
   pub world : WorldParts A
   pub log : LogParts
   pub rounds : RoundSums
   pub position : Position
+
+-- what a contract sees of one, which is the same with the sieve that says which rows are kept
+pub record SievedSim (A S : Type 0) : Type 0 where
+  pub world : WorldParts A
+  pub log : SievedLog S
+  pub rounds : RoundSums
+  pub position : Position
+
+abbrev pub sim_of : {A S : Type 0} → (S → ActorId → ℕ → Bool) → SievedSim A S → SimParts A
+sim_of keeps v = record { world = v.world; log = log_of keeps v.log; rounds = v.rounds; position = v.position }
 
 -- ---- between two moments
 

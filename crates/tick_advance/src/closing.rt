@@ -20,7 +20,7 @@ ghost use Rattle.local_manager.specs.declared.phase.Phase.TheVariants as phase;
 ghost use Rattle.tick_advance.specs.Following.{next_diasca, position_before, step_before};
 ghost use Rattle.tick_advance.specs.Harvests.{CanAdvance, AreInboxesSent};
 ghost use Rattle.tick_advance.specs.RoundsOf.{with_moment};
-ghost use Rattle.tick_advance.specs.Standing.{IsAt, IsWithin, LeadsTo, StandsFor, StandsWithin, step_to};
+ghost use Rattle.tick_advance.specs.Standing.{IsAt, IsWithin, LeadsTo, StandsFor, StandsWithin, sim_of, step_to};
 ghost use Rattle.tick_advance.specs.declared.position.Position.TheVariants as position;
 ghost use Rattle.tick_advance.specs.declared.position.Step.TheVariants as went;
 
@@ -30,11 +30,12 @@ use actor_trait::Actor;
 use agenda::Agenda;
 use inbox_order::Inboxes;
 use local_manager::World;
+use probes::Sieve;
 use quiescence::Closed;
 use sim_base::{Ending, Items, Memory, Moment};
 use sim_model::{Fault, Next, Report, Settled};
 
-impl<A: Actor + Drop, G: Agenda + Drop> Sim<A, G> {
+impl<A: Actor + Drop, G: Agenda + Drop, S: Sieve + Drop> Sim<A, G, S> {
     /// Closes the moment that is entered, by the reports of all that are scheduled and the inboxes of what
     /// they send, once its round is over; or the run ends where somebody shows a fault. Once the run is
     /// over nothing changes, and the answer is its end. Err is want of memory, and each further call
@@ -45,16 +46,17 @@ impl<A: Actor + Drop, G: Agenda + Drop> Sim<A, G> {
         reports: Items<Report<A>>,
         inboxes: Inboxes,
     ) -> Result<Step, Memory>
-        requires harvest { CanAdvance A.meaning self.old (record { closed = closed; reports = reports; inboxes = inboxes }) }
-        ensures stands { OnOk result ((s : SetupParts A) (k : ℕ) → StandsWithin A.meaning s k self.old → StandsFor A.meaning s (k + 1) self.new) }
-        ensures step { IfOk result (λ went. (s : SetupParts A) (k : ℕ) → StandsWithin A.meaning s k self.old → went ≡ step_to (run_after A.meaning s (k + 1))) }
+        requires harvest { CanAdvance A.meaning (sim_of S.keeps self.old) (record { closed = closed; reports = reports; inboxes = inboxes }) }
+        ensures stands { OnOk result ((s : SetupParts A) (k : ℕ) → StandsWithin A.meaning s k (sim_of S.keeps self.old) → StandsFor A.meaning s (k + 1) (sim_of S.keeps self.new)) }
+        ensures step { IfOk result (λ went. (s : SetupParts A) (k : ℕ) → StandsWithin A.meaning s k (sim_of S.keeps self.old) → went ≡ step_to (run_after A.meaning s (k + 1))) }
         ensures ended { (e : Ending) → self.old.position ≡ position.Ended e → (result ≡ Ok (went.Ended e)) × (self.new ≡ self.old) }
-        ensures stage { OnOk result ((u : Underway A) → IsWithin self.old u → IsAt self.new (step A.meaning u)) }
-        ensures went { IfOk result (λ went. (u : Underway A) → IsWithin self.old u → went ≡ step_to (step A.meaning u)) }
+        ensures stage { OnOk result ((u : Underway A) → IsWithin (sim_of S.keeps self.old) u → IsAt (sim_of S.keeps self.new) (step A.meaning u)) }
+        ensures went { IfOk result (λ went. (u : Underway A) → IsWithin (sim_of S.keeps self.old) u → went ≡ step_to (step A.meaning u)) }
         ensures leads { IfOk result (λ went. (at : Moment) → self.old.position ≡ position.Within at → LeadsTo at went self.new.position) }
         ensures parameters { OnOk result (self.new.world.one.parameters ≡ self.old.world.one.parameters) }
         ensures rounds { (at : Moment) → self.old.position ≡ position.Within at → self.new.rounds ≡ with_moment A.meaning self.old.world.one at self.old.rounds }
         ensures given { self.new.log.given ≡ self.old.log.given }
+        ensures keeps { S.keeps self.new.log.sieve ≡ S.keeps self.old.log.sieve }
         ensures lost { OnErr result (self.new.position ≡ position.Lost) }
         ensures stays_lost { self.old.position ≡ position.Lost → is_err result ≡ true }
     {
@@ -80,12 +82,13 @@ impl<A: Actor + Drop, G: Agenda + Drop> Sim<A, G> {
         requires within { self.old.position ≡ position.Within at }
         requires reports { reports ≡ reports_now A.meaning self.old.world }
         requires inboxes { AreInboxesSent A.meaning self.old.world inboxes }
-        ensures stage { OnOk result ((u : Underway A) → IsWithin self.old u → IsAt self.new (step A.meaning u)) }
-        ensures step { IfOk result (λ went. (u : Underway A) → IsWithin self.old u → went ≡ step_to (step A.meaning u)) }
+        ensures stage { OnOk result ((u : Underway A) → IsWithin (sim_of S.keeps self.old) u → IsAt (sim_of S.keeps self.new) (step A.meaning u)) }
+        ensures step { IfOk result (λ went. (u : Underway A) → IsWithin (sim_of S.keeps self.old) u → went ≡ step_to (step A.meaning u)) }
         ensures leads { IfOk result (λ went. LeadsTo at went self.new.position) }
         ensures parameters { OnOk result (self.new.world.one.parameters ≡ self.old.world.one.parameters) }
         ensures rounds { self.new.rounds ≡ self.old.rounds }
         ensures given { self.new.log.given ≡ self.old.log.given }
+        ensures keeps { S.keeps self.new.log.sieve ≡ S.keeps self.old.log.sieve }
         ensures lost { OnErr result (self.new.position ≡ position.Lost) }
     {
         let _managers = self.world.managers();
@@ -118,12 +121,13 @@ impl<A: Actor + Drop, G: Agenda + Drop> Sim<A, G> {
         requires calm { fault_of_moment A.meaning self.old.world.one at (reports_now A.meaning self.old.world) ≡ None }
         requires settled { settled ≡ settled_by A.meaning (next_id self.old.world.one) (reports_now A.meaning self.old.world) None }
         requires inboxes { AreInboxesSent A.meaning self.old.world inboxes }
-        ensures stage { OnOk result ((u : Underway A) → IsWithin self.old u → IsAt self.new (step A.meaning u)) }
-        ensures step { IfOk result (λ went. (u : Underway A) → IsWithin self.old u → went ≡ step_to (step A.meaning u)) }
+        ensures stage { OnOk result ((u : Underway A) → IsWithin (sim_of S.keeps self.old) u → IsAt (sim_of S.keeps self.new) (step A.meaning u)) }
+        ensures step { IfOk result (λ went. (u : Underway A) → IsWithin (sim_of S.keeps self.old) u → went ≡ step_to (step A.meaning u)) }
         ensures leads { IfOk result (λ went. LeadsTo at went self.new.position) }
         ensures parameters { OnOk result (self.new.world.one.parameters ≡ self.old.world.one.parameters) }
         ensures rounds { self.new.rounds ≡ self.old.rounds }
         ensures given { self.new.log.given ≡ self.old.log.given }
+        ensures keeps { S.keeps self.new.log.sieve ≡ S.keeps self.old.log.sieve }
         ensures lost { OnErr result (self.new.position ≡ position.Lost) }
     {
         self.position = Position::Lost;

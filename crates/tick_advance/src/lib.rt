@@ -12,5 +12,5 @@ mod stepping;
 mod threads;
 
 pub use position::{Position, Progress, Step};
-pub use running::run;
+pub use running::{run, run_kept};
 pub use sim::Sim;

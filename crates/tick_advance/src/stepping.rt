@@ -5,7 +5,7 @@ ghost use Rattle.sim_model.specs.Run.{run_after, step};
 ghost use Rattle.sim_model.specs.SetupParts.{SetupParts};
 ghost use Rattle.sim_model.specs.declared.stage.Underway.{Underway};
 ghost use Rattle.tick_advance.specs.RoundsOf.{with_moment};
-ghost use Rattle.tick_advance.specs.Standing.{IsAt, IsBefore, IsOn, IsWithin, LeadsTo, PassesTick, StandsFor, progress_to, step_to};
+ghost use Rattle.tick_advance.specs.Standing.{IsAt, IsBefore, IsOn, IsWithin, LeadsTo, PassesTick, StandsFor, progress_to, sim_of, step_to};
 ghost use Rattle.tick_advance.specs.declared.position.Position.TheVariants as position;
 ghost use Rattle.tick_advance.specs.declared.position.Progress.TheVariants as progress;
 ghost use Rattle.tick_advance.specs.declared.position.Step.TheVariants as went;
@@ -15,12 +15,13 @@ use crate::{Position, Progress, Sim, Step};
 use actor_trait::Actor;
 use agenda::Agenda;
 use inbox_order::Inboxes;
+use probes::Sieve;
 use sim_base::{Gate, Items, Memory, Moment};
 use std::mem;
 use std::thread::Threads;
 use work_claims::{Blocks, crew_in};
 
-impl<A: Actor + Send + Sync + Drop, G: Agenda + Send + Sync + Drop> Sim<A, G> {
+impl<A: Actor + Send + Sync + Drop, G: Agenda + Send + Sync + Drop, S: Sieve + Drop> Sim<A, G, S> {
     /// One moment: it is entered, all that are scheduled act by as many hands as the work pays for, and it
     /// is closed, unless somebody shows a fault. Where nobody is scheduled no round is opened. Once the run
     /// is over nothing changes, and the answer is its end. Err is want of memory, and each further call
@@ -30,12 +31,13 @@ impl<A: Actor + Send + Sync + Drop, G: Agenda + Send + Sync + Drop> Sim<A, G> {
         rt: &R,
         gate: &T,
     ) -> Result<Step, Memory>
-        ensures stands { OnOk result ((s : SetupParts A) (k : ℕ) → StandsFor A.meaning s k self.old → StandsFor A.meaning s (k + 1) self.new) }
-        ensures step { IfOk result (λ went. (s : SetupParts A) (k : ℕ) → StandsFor A.meaning s k self.old → went ≡ step_to (run_after A.meaning s (k + 1))) }
+        ensures stands { OnOk result ((s : SetupParts A) (k : ℕ) → StandsFor A.meaning s k (sim_of S.keeps self.old) → StandsFor A.meaning s (k + 1) (sim_of S.keeps self.new)) }
+        ensures step { IfOk result (λ went. (s : SetupParts A) (k : ℕ) → StandsFor A.meaning s k (sim_of S.keeps self.old) → went ≡ step_to (run_after A.meaning s (k + 1))) }
         ensures leads { IfOk result (λ went. (at : Moment) → IsOn at self.old.position → LeadsTo at went self.new.position) }
         ensures parameters { OnOk result (self.new.world.one.parameters ≡ self.old.world.one.parameters) }
         ensures ended { (e : Ending) → self.old.position ≡ position.Ended e → (result ≡ Ok (went.Ended e)) × (self.new ≡ self.old) }
         ensures given { self.new.log.given ≡ self.old.log.given }
+        ensures keeps { S.keeps self.new.log.sieve ≡ S.keeps self.old.log.sieve }
         ensures lost { OnErr result (self.new.position ≡ position.Lost) }
         ensures stays_lost { self.old.position ≡ position.Lost → is_err result ≡ true }
     {
@@ -53,7 +55,7 @@ impl<A: Actor + Send + Sync + Drop, G: Agenda + Send + Sync + Drop> Sim<A, G> {
     /// Enters the next moment. Err is want of memory.
     fn enter(&mut self, at: Moment) -> Result<(), Memory>
         requires before { self.old.position ≡ position.Before at }
-        ensures within { OnOk result ((u : Underway A) → IsBefore self.old u → IsWithin self.new u) }
+        ensures within { OnOk result ((u : Underway A) → IsBefore (sim_of S.keeps self.old) u → IsWithin (sim_of S.keeps self.new) u) }
         ensures position { OnOk result (self.new.position ≡ position.Within at) }
         ensures now { OnOk result (self.new.world.moment ≡ at) }
         ensures rounds { self.new.rounds ≡ self.old.rounds }
@@ -75,12 +77,13 @@ impl<A: Actor + Send + Sync + Drop, G: Agenda + Send + Sync + Drop> Sim<A, G> {
         gate: &T,
     ) -> Result<Step, Memory>
         requires within { self.old.position ≡ position.Within at }
-        ensures stage { OnOk result ((u : Underway A) → IsWithin self.old u → IsAt self.new (step A.meaning u)) }
-        ensures step { IfOk result (λ went. (u : Underway A) → IsWithin self.old u → went ≡ step_to (step A.meaning u)) }
+        ensures stage { OnOk result ((u : Underway A) → IsWithin (sim_of S.keeps self.old) u → IsAt (sim_of S.keeps self.new) (step A.meaning u)) }
+        ensures step { IfOk result (λ went. (u : Underway A) → IsWithin (sim_of S.keeps self.old) u → went ≡ step_to (step A.meaning u)) }
         ensures leads { IfOk result (λ went. LeadsTo at went self.new.position) }
         ensures parameters { OnOk result (self.new.world.one.parameters ≡ self.old.world.one.parameters) }
         ensures rounds { OnOk result (self.new.rounds ≡ with_moment A.meaning self.old.world.one at self.old.rounds) }
         ensures given { self.new.log.given ≡ self.old.log.given }
+        ensures keeps { S.keeps self.new.log.sieve ≡ S.keeps self.old.log.sieve }
         ensures lost { OnErr result (self.new.position ≡ position.Lost) }
     {
         let scheduled = self.world.count_scheduled();
@@ -114,11 +117,12 @@ impl<A: Actor + Send + Sync + Drop, G: Agenda + Send + Sync + Drop> Sim<A, G> {
         rt: &R,
         gate: &T,
     ) -> Result<Progress, Memory>
-        ensures stands { OnOk result ((s : SetupParts A) (k : ℕ) → StandsFor A.meaning s k self.old
-            → (j : ℕ) × PassesTick A.meaning s k j × StandsFor A.meaning s (k + j) self.new) }
-        ensures progress { IfOk result (λ went. (s : SetupParts A) (k : ℕ) → StandsFor A.meaning s k self.new → went ≡ progress_to (run_after A.meaning s k)) }
+        ensures stands { OnOk result ((s : SetupParts A) (k : ℕ) → StandsFor A.meaning s k (sim_of S.keeps self.old)
+            → (j : ℕ) × PassesTick A.meaning s k j × StandsFor A.meaning s (k + j) (sim_of S.keeps self.new)) }
+        ensures progress { IfOk result (λ went. (s : SetupParts A) (k : ℕ) → StandsFor A.meaning s k (sim_of S.keeps self.new) → went ≡ progress_to (run_after A.meaning s k)) }
         ensures ended { (e : Ending) → self.old.position ≡ position.Ended e → (result ≡ Ok (progress.Ended e)) × (self.new ≡ self.old) }
         ensures given { self.new.log.given ≡ self.old.log.given }
+        ensures keeps { S.keeps self.new.log.sieve ≡ S.keeps self.old.log.sieve }
         ensures lost { OnErr result (self.new.position ≡ position.Lost) }
         ensures stays_lost { self.old.position ≡ position.Lost → is_err result ≡ true }
     {

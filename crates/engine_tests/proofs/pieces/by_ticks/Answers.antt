@@ -1,5 +1,6 @@
 use Rattle.std.proofs.Common.{◌+◌, ◌∙◌, sym}
-use Rattle.engine_tests.proofs.Ends.{over_by_tick}
+use Rattle.engine_tests.proofs.Ends.{keep_all, over_by_tick}
+use Rattle.tick_advance.specs.Standing.{sim_of}
 use Rattle.engine_tests.proofs.pieces.by_ticks.Goals as goal
 
 pub loop-tick-init : goal.loop-tick-init
@@ -18,5 +19,5 @@ ends-requires-clause-over g c =
     let told = c.in_ok-went.ensures.progress c.args.setup (before.0 + after.0) after.2 in
     let stands = c.in_ok-fresh.ensures.stands c.args.setup (before.0 + after.0) after.2 in
     let over =
-    over_by_tick g.A.Actor.meaning c.args.setup (before.0 + after.0) c.fresh.new.self c.in-Ended.ending stands (sym c.in-Ended.is ∙ told) in
+    over_by_tick g.A.Actor.meaning c.args.setup (before.0 + after.0) (sim_of keep_all c.fresh.new.self) c.in-Ended.ending stands (sym c.in-Ended.is ∙ told) in
     λ _ _. over

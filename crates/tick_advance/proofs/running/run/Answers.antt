@@ -1,29 +1,5 @@
-use Rattle.std.proofs.Common.{sym, ◌∙◌}
-use Rattle.tick_advance.proofs.Passing.{fewer_in_run, has_come_to_end, tick_more}
+use Rattle.tick_advance.proofs.Ending.{answers_all}
 use Rattle.tick_advance.proofs.running.run.Goals as goal
 
-pub results-requires : goal.results-requires
-results-requires g c =
-    let m = g.A.Actor.meaning in
-    let at = c.loop-sim.invariant in
-    let next = tick_more m c.args.setup at.moments c.tick.new.self (c.in_ok-tick.ensures.stands c.args.setup at.moments at.stands) in
-    record {
-      over = (
-        c.in-Ended.field-0,
-        has_come_to_end m c.args.setup next.moments c.tick.new.self c.in-Ended.field-0 next.stands
-            (sym c.in-Ended.is ∙ c.in_ok-tick.ensures.progress c.args.setup next.moments next.stands),
-      );
-    }
-
-pub loop-sim-smaller : goal.loop-sim-smaller
-loop-sim-smaller g c =
-    let m = g.A.Actor.meaning in
-    let at = c.loop-sim.invariant in
-    let did = c.in_ok-tick.ensures in
-    fewer_in_run m c.args.setup at.moments c.loop-sim.sim c.tick.new.self c.in_ok-tick.field-0 at.stands c.in_default.is
-    (λ e over. let same = (did.ended e over).0 in cc) (λ n h. did.progress c.args.setup n h) (did.stands c.args.setup at.moments at.stands)
-
-pub loop-sim-preserved : goal.loop-sim-preserved
-loop-sim-preserved g c =
-    let at = c.loop-sim.invariant in
-    tick_more g.A.Actor.meaning c.args.setup at.moments c.tick.new.self (c.in_ok-tick.ensures.stands c.args.setup at.moments at.stands)
+pub returns-clause-run : goal.returns-clause-run
+returns-clause-run g c = answers_all g.A.Actor.meaning c.args.setup c.run_kept.result c.run_kept.ensures.run

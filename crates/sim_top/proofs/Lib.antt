@@ -1,5 +1,6 @@
 pub mod Clauses
 pub mod Endings
+pub mod Kept
 pub mod Numbers
 pub mod Pairs
 pub mod Rounds

@@ -12,11 +12,13 @@ use agenda_wheel::WheelAgenda;
 use placement::Plan;
 use result_store::{add_end_line, text};
 use scenario::Scenario;
+use selection::Selection;
 use sha2::{Digest, Sha256};
 use sim_base::{Gate, Items, Memory, Status};
 use sim_model::Results;
 use std::alloc::Global;
 use std::thread::Threads;
+use tick_advance::run_kept;
 
 /// How many lines a text has.
 fn line_count(text: &[u8]) -> usize
@@ -87,7 +89,8 @@ pub(crate) fn reply<R: Threads + Sync, G: Gate + Sync>(
 {
     let Scenario { setup, rules, .. } = Scenario::generate(alloc, groups)?;
     let actors = setup.actors.len();
-    let run = tick_advance::run::<_, _, WheelAgenda, _>(rt, alloc, setup, plan, gate)?;
+    let sieve = Selection::of(alloc, &rules, &setup)?;
+    let run = run_kept::<_, _, WheelAgenda, _, _>(rt, alloc, setup, plan, sieve, gate)?;
     let (results, rounds) = run;
     let text = text(alloc, &results, &rules)?;
     let lines = summary_of(alloc, actors, text.as_slice(), &results)?;

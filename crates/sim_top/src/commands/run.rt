@@ -9,9 +9,11 @@ use agenda_wheel::WheelAgenda;
 use placement::Plan;
 use result_store::text;
 use scenario::Scenario;
+use selection::Selection;
 use sim_base::{Gate, Items, Status};
 use std::alloc::Global;
 use std::thread::Threads;
+use tick_advance::run_kept;
 
 /// The text of the run of the scenario that was read, the status of its ending, and its rounds.
 #[tactic(auto, unfolding(crate::specs::Commands::Run::run_answer))]
@@ -26,7 +28,8 @@ pub(crate) fn reply<R: Threads + Sync, G: Gate + Sync>(
     ensures ending { IfOk result (λ a. IsEnding a.status) }
 {
     let Scenario { setup, rules, .. } = read_scenario(alloc, bytes)?;
-    let run = tick_advance::run::<_, _, WheelAgenda, _>(rt, alloc, setup, plan, gate)?;
+    let sieve = Selection::of(alloc, &rules, &setup)?;
+    let run = run_kept::<_, _, WheelAgenda, _, _>(rt, alloc, setup, plan, sieve, gate)?;
     let (results, rounds) = run;
     Ok(Answer {
         text: text(alloc, &results, &rules)?,

@@ -63,24 +63,39 @@ const DEPOTS: [(Moment, u32, i64, &[u64], usize); 3] = [
     (Moment { tick: 9, diasca: 1 }, 2, 2, &[], 0),
 ];
 
+/// Whether the next state is the depot with so many born.
+fn is_depot(state: &AnyActor, born: i64) -> bool {
+    match state {
+        AnyActor::Depot(depot) => *depot == Depot { born, ..DEPOT },
+        _ => false,
+    }
+}
+
+fn is_refill(actor: &AnyActor) -> bool {
+    match actor {
+        AnyActor::Refill(refill) => *refill == REFILL,
+        _ => false,
+    }
+}
+
+/// Whether the depot did so, and bore only refills.
+fn is_of_depot(outcome: &Outcome<AnyActor>, born: i64, ticks: &[u64], bears: usize) -> bool {
+    is_depot(&outcome.state, born)
+        && outcome.ticks.as_slice() == ticks
+        && outcome.births.len() == bears
+        && outcome.births.as_slice().iter().all(is_refill)
+        && !outcome.retire
+}
+
 #[test]
 fn depots_bear_refills(rt: HostRuntime) -> Result<(), Fail> {
     for &(now, told, born, ticks, bears) in &DEPOTS {
         let outcome = outcome_of(rt.alloc(), &AnyActor::Depot(DEPOT), now, told)?;
-        match &outcome.state {
-            AnyActor::Depot(depot) => assert_eq!(rt; *depot, Depot { born, ..DEPOT }),
-            _ => assert!(rt; false),
-        }
-        assert_eq!(rt; outcome.ticks.as_slice(), ticks);
-        assert_eq!(rt; outcome.births.len(), bears);
-        for born in outcome.births.as_slice() {
-            match born {
-                AnyActor::Refill(refill) => assert_eq!(rt; *refill, REFILL),
-                _ => assert!(rt; false),
-            }
-        }
-        assert!(rt; !outcome.retire);
-        assert_eq!(rt; fault_of(&outcome, now), None);
+        let is_calm = fault_of(&outcome, now).is_none();
+        assert!(rt;
+            is_calm && is_of_depot(&outcome, born, ticks, bears),
+            "{now:?}"
+        );
     }
     Ok(())
 }
@@ -104,24 +119,33 @@ const ORIGINS: [(Moment, u32, u32, &[u64], usize, usize); 3] = [
     (Moment { tick: 9, diasca: 1 }, 1, 2, &[], 0, 1),
 ];
 
+/// Whether the next state is an origin with so many left.
+fn is_origin(state: &AnyActor, left: u32) -> bool {
+    match state {
+        AnyActor::Origin(origin) => origin.left == left,
+        _ => false,
+    }
+}
+
+/// Whether it is a vehicle whose route has two roads.
+fn is_vehicle(actor: &AnyActor) -> bool {
+    match actor {
+        AnyActor::Vehicle(vehicle) => vehicle.route.len() == 2,
+        _ => false,
+    }
+}
+
 #[test]
 fn origins_bear_vehicles(rt: HostRuntime) -> Result<(), Fail> {
     for &(now, told, left, ticks, bears, samples) in &ORIGINS {
         let actor = AnyActor::Origin(origin(rt.alloc())?);
         let outcome = outcome_of(rt.alloc(), &actor, now, told)?;
-        match &outcome.state {
-            AnyActor::Origin(origin) => assert_eq!(rt; origin.left, left),
-            _ => assert!(rt; false),
-        }
-        assert_eq!(rt; outcome.ticks.as_slice(), ticks);
-        assert_eq!(rt; outcome.births.len(), bears);
-        assert_eq!(rt; outcome.samples.len(), samples);
-        for born in outcome.births.as_slice() {
-            match born {
-                AnyActor::Vehicle(vehicle) => assert_eq!(rt; vehicle.route.len(), 2),
-                _ => assert!(rt; false),
-            }
-        }
+        let is_so = is_origin(&outcome.state, left)
+            && outcome.ticks.as_slice() == ticks
+            && outcome.births.len() == bears
+            && outcome.samples.len() == samples
+            && outcome.births.as_slice().iter().all(is_vehicle);
+        assert!(rt; is_so, "{now:?}");
     }
     Ok(())
 }
@@ -195,19 +219,22 @@ const KINDS: [(&str, &[&str]); 11] = [
     ("vehicle", &["leg", "trip"]),
 ];
 
+/// Whether an actor is of the kind of this name, with these probes.
+fn is_of(actor: &AnyActor, kind: &str, probes: &[&str]) -> bool {
+    actor.kind() == kind
+        && actor.probes() as usize == probes.len()
+        && (0..actor.probes())
+            .zip(probes)
+            .all(|(number, probe)| actor.probe(number) == *probe)
+}
+
 #[test]
 fn each_kind_has_its_name_and_probes(rt: HostRuntime) -> Result<(), Fail> {
     let actors = actors(rt.alloc())?;
-    assert_eq!(rt; actors.len(), KINDS.len());
-    for (actor, (kind, probes)) in actors.iter().zip(KINDS.iter()) {
+    assert!(rt; actors.len() == KINDS.len());
+    for (actor, &(kind, probes)) in actors.iter().zip(&KINDS) {
         let copy = actor.copy(rt.alloc())?;
-        assert_eq!(rt; copy.kind(), *kind);
-        assert_eq!(rt; actor.kind(), *kind);
-        assert_eq!(rt; actor.probes() as usize, probes.len());
-        for (number, probe) in probes.iter().enumerate() {
-            assert!(rt; number < actor.probes() as usize);
-            assert_eq!(rt; actor.probe(number as u32), *probe);
-        }
+        assert!(rt; is_of(actor, kind, probes) && copy.kind() == kind, "{kind}");
     }
     Ok(())
 }

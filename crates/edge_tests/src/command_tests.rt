@@ -272,32 +272,29 @@ const PARTS: [&str; 6] = [
     "Exit codes",
 ];
 
-/// The page of usage has its parts, and no line of more than 80 bytes.
-#[test]
-fn help_is_a_page(rt: HostRuntime) -> Result<(), Fail> {
+/// The page of usage.
+fn page_of<R: AllocGlobal + Sync + Threads>(rt: &R) -> Result<BytesOut, Fail> {
     let alloc = rt.alloc();
     let words = words_of(alloc, &["--help"])?;
     let mut input = BytesIn::new(Items::new(alloc), 1, Items::new(alloc));
     let mut out = BytesOut::new(alloc, 4000, 4096, Items::new(alloc))?;
     let mut err = BytesOut::new(alloc, 16, 4096, Items::new(alloc))?;
-    let ran = simulate(
-        &rt,
-        alloc,
-        words.as_slice(),
-        &mut input,
-        &mut out,
-        &mut err,
-        &OpenGate,
-    );
-    assert_eq!(rt; ran.status, Status::Done);
-    let Ok(page) = str::from_utf8(out.as_slice()) else {
-        return Err(Fail::from("no text"));
-    };
-    for part in &PARTS {
-        assert!(rt; page.contains(*part), "{part}");
+    let words = words.as_slice();
+    match simulate(rt, alloc, words, &mut input, &mut out, &mut err, &OpenGate).status {
+        Status::Done => Ok(out),
+        _ => Err(Fail::from("no page")),
     }
-    for line in page.lines() {
-        assert!(rt; line.len() <= 80, "{line}");
-    }
+}
+
+/// Whether a text has all parts, and no line of more than 80 bytes.
+fn is_page(text: &str) -> bool {
+    PARTS.iter().all(|part| text.contains(*part)) && text.lines().all(|line| line.len() <= 80)
+}
+
+#[test]
+fn help_is_a_page(rt: HostRuntime) -> Result<(), Fail> {
+    let page = page_of(&rt)?;
+    let text = str::from_utf8(page.as_slice());
+    assert!(rt; text.is_ok_and(is_page));
     Ok(())
 }

@@ -137,10 +137,6 @@ fn long_lists_are_refused(rt: HostRuntime) -> Result<(), Fail> {
     Ok(())
 }
 
-fn scenario_of(alloc: Global, text: &str) -> Result<Scenario, Fail> {
-    Scenario::read(alloc, text.as_bytes()).map_err(|_| Fail::from("no scenario"))
-}
-
 /// Scenarios, and the canonical texts of what they are upgraded to.
 const UPGRADED: [(&str, &str); 3] = [
     (
@@ -170,12 +166,17 @@ const UPGRADED: [(&str, &str); 3] = [
     ),
 ];
 
+/// The canonical text of what a scenario is upgraded to.
+fn upgraded(alloc: Global, text: &str) -> Result<Items<u8>, Fail> {
+    let scenario = Scenario::read(alloc, text.as_bytes())?;
+    Ok(scenario.upgrade().print(alloc)?)
+}
+
 #[test]
 fn an_upgraded_scenario_is_one_of_format_2(rt: HostRuntime) -> Result<(), Fail> {
-    for &(text, upgraded) in &UPGRADED {
-        let scenario = scenario_of(rt.alloc(), text)?.upgrade();
-        let printed: Items<u8> = scenario.print(rt.alloc())?;
-        assert_eq!(rt; printed.as_slice(), upgraded.as_bytes(), "{text}");
+    for &(text, canonical) in &UPGRADED {
+        let came = upgraded(rt.alloc(), text)?;
+        assert!(rt; came.as_slice() == canonical.as_bytes(), "{text}");
     }
     Ok(())
 }
@@ -195,28 +196,36 @@ const ONE_GROUP: &str =
         \"name\":\"k_0\",\"period\":25}],\"diasca_limit\":1000,\"format\":1,\"last_tick\":100,\
         \"max_actors\":200000,\"results\":[\"+*.trip\",\"+*.stock\",\"+*.cars\"],\"seed\":1}";
 
+/// The canonical text of so many generated groups.
+fn generated(alloc: Global, groups: u32) -> Result<Items<u8>, Fail> {
+    if groups < 1 || groups > 10_000 {
+        return Err(Fail::from("no groups"));
+    }
+    let scenario = Scenario::generate(alloc, groups)?;
+    Ok(scenario.print(alloc)?)
+}
+
 #[test]
 fn one_group_is_generated(rt: HostRuntime) -> Result<(), Fail> {
-    let scenario = Scenario::generate(rt.alloc(), 1)?;
-    let printed = scenario.print(rt.alloc())?;
-    assert_eq!(rt; printed.as_slice(), ONE_GROUP.as_bytes());
+    let text = generated(rt.alloc(), 1)?;
+    assert!(rt; text.as_slice() == ONE_GROUP.as_bytes());
     Ok(())
 }
 
-/// The last of many groups leads to the first, and a road's length goes on anew after five.
+/// Some of what twelve groups are generated to: the last leads to the first, and a road's length goes on anew
+/// after five.
+const TWELVE_GROUPS: [&str; 3] = [
+    r#"{"kind":"road","length":4,"name":"a_11","room":2}"#,
+    r#""name":"o_11","period":7,"route":["a_11","b_11","a_0"]}"#,
+    r#"{"kind":"customer","machine":"m_0","money":100,"name":"d_11","offer":3,"period":10}"#,
+];
+
 #[test]
 fn the_last_group_leads_to_the_first(rt: HostRuntime) -> Result<(), Fail> {
-    let scenario = Scenario::generate(rt.alloc(), 12)?;
-    assert_eq!(rt; scenario.setup.actors.len(), 120);
-    let printed = scenario.print(rt.alloc())?;
-    let text = String::from_utf8_lossy(rt.alloc(), printed.as_slice())?;
-    for part in [
-        r#"{"kind":"road","length":4,"name":"a_11","room":2}"#,
-        r#""name":"o_11","period":7,"route":["a_11","b_11","a_0"]}"#,
-        r#"{"kind":"customer","machine":"m_0","money":100,"name":"d_11","offer":3,"period":10}"#,
-    ] {
-        assert!(rt; text.contains(part), "{part}");
-    }
+    let bytes = generated(rt.alloc(), 12)?;
+    let text = String::from_utf8_lossy(rt.alloc(), bytes.as_slice())?;
+    let actors = text.matches(r#""name":"#).count();
+    assert!(rt; actors == 120 && TWELVE_GROUPS.iter().all(|part| text.contains(*part)));
     Ok(())
 }
 

@@ -110,14 +110,23 @@ const TEXTS: [(&[&str], Ending, u64, &str); 6] = [
     (&[], Ending::DiascaLimit, 0, "end,2,1,diasca_limit,0\n"),
 ];
 
+/// The text of a run that ended so, with the series that these rules keep.
+fn text_of(
+    alloc: Global,
+    rules: &[&str],
+    ending: Ending,
+    dead_letters: u64,
+) -> Result<Items<u8>, Fail> {
+    let rules = rules_of(alloc, rules)?;
+    Ok(text(alloc, &results(alloc, ending, dead_letters)?, &rules)?)
+}
+
 #[test]
 fn a_text_has_the_kept_series_of_each_actor(rt: HostRuntime) -> Result<(), Fail> {
-    let alloc = rt.alloc();
     for &(rules, ending, dead_letters, lines) in &TEXTS {
-        let rules = rules_of(alloc, rules)?;
-        let text = text(alloc, &results(alloc, ending, dead_letters)?, &rules)?;
-        let expected = format!(in alloc; "tick,diasca,actor,probe,value\n{lines}")?;
-        assert_eq!(rt; text.as_slice(), expected.as_bytes());
+        let text = text_of(rt.alloc(), rules, ending, dead_letters)?;
+        let expected = format!(in rt.alloc(); "tick,diasca,actor,probe,value\n{lines}")?;
+        assert!(rt; text.as_slice() == expected.as_bytes(), "{lines}");
     }
     Ok(())
 }

@@ -43,20 +43,22 @@ fn settle_depots(
     settle(alloc, reports, NOW, 4, 6)
 }
 
+/// Who of these depots is blamed, and with which code.
+fn blamed(alloc: Global, actors: &[Start<AnyActor>]) -> Result<(ActorId, u32), Fail> {
+    let [_, first, second] = actors else {
+        return Err(Fail::from("no depots"));
+    };
+    match settle_depots(alloc, first, second)? {
+        Settled::Faulted { actor, code } => Ok((actor, code)),
+        Settled::Settled { .. } => Err(Fail::from("no fault")),
+    }
+}
+
 /// As the run of this scenario does, whose text is among `RUNS`.
 #[test]
 fn settling_blames_the_second_depot(rt: HostRuntime) -> Result<(), Fail> {
-    let alloc = rt.alloc();
-    let read = Scenario::read(alloc, TWO_DEPOTS.as_bytes());
-    let Ok(scenario) = &read else {
-        return Err(Fail::from("no scenario"));
-    };
-    let [_, first, second] = scenario.setup.actors.as_slice() else {
-        return Err(Fail::from("no depots"));
-    };
-    let Settled::Faulted { actor, code } = settle_depots(alloc, first, second)? else {
-        return Err(Fail::from("no fault"));
-    };
-    assert_eq!(rt; (actor, code), (ActorId(3), 902));
+    let read = Scenario::read(rt.alloc(), TWO_DEPOTS.as_bytes())?;
+    let blamed = blamed(rt.alloc(), read.setup.actors.as_slice())?;
+    assert!(rt; blamed == (ActorId(3), 902));
     Ok(())
 }

@@ -1,5 +1,7 @@
-ghost use Rattle.std.specs.Prelude.{◌≡◌};
+ghost use Rattle.std.specs.Prelude.{◌≡◌, ◌+◌, ℕ, Some, IfOk, OnOk};
 ghost use Rattle.sim_base.specs.declared.moment.Ending.{Ending};
+ghost use Rattle.sim_model.specs.SetupParts.{SetupParts};
+ghost use Rattle.tick_advance.specs.Standing.{StandsFor, sim_of};
 ghost use Rattle.tick_advance.specs.declared.position.Position.TheVariants as position;
 
 use crate::cases::End;
@@ -7,8 +9,8 @@ use crate::runs::{is_end, is_same_cast};
 use actor_trait::Actor;
 use agenda_wheel::WheelAgenda;
 use placement::Plan;
-use probes::KeepAll;
-use sim_base::OpenGate;
+use probes::{KeepAll, Sieve};
+use sim_base::{Ending, OpenGate, Row};
 use sim_model::{Results, Setup};
 use std::process::Abort;
 use std::test::Fail;
@@ -18,61 +20,114 @@ use tick_advance::{Progress, Sim, Step};
 /// More moments than any run here has.
 const MOST: u32 = 20;
 
+/// How far a run goes at a time.
+#[derive(Clone, Copy)]
+pub(crate) enum Pace {
+    Moment,
+    Tick,
+}
+
+/// Goes on by a moment, and adds the rows that are fresh. Some is how the run ended.
+fn moment_on<R: Threads + Sync, A: Actor + Send + Sync + Drop, S: Sieve + Drop>(
+    rt: &R,
+    sim: &mut Sim<A, WheelAgenda, S>,
+    rows: &mut Vec<Row>,
+) -> Result<Option<Ending>, Fail>
+    ensures stands { OnOk result ((s : SetupParts A) (k : ℕ) → StandsFor A.meaning s k (sim_of S.keeps sim.old)
+        → (j : ℕ) × StandsFor A.meaning s (k + j) (sim_of S.keeps sim.new)) }
+    ensures over { IfOk result (λ ended. (e : Ending) (s : SetupParts A) (k : ℕ) → ended ≡ Some e → StandsFor A.meaning s k (sim_of S.keeps sim.old)
+        → (o : Ending) × (sim.new.position ≡ position.Ended o)) }
+{
+    let went = sim.diasca(rt, &OpenGate)?;
+    rows.extend_from_slice(sim.fresh()?.as_slice())?;
+    Ok(match went {
+        Step::Ended(ending) => Some(ending),
+        Step::NextTick | Step::NextDiasca => None,
+    })
+}
+
+/// Goes on by a tick, and adds the rows that are fresh. Some is how the run ended.
+fn tick_on<R: Threads + Sync, A: Actor + Send + Sync + Drop, S: Sieve + Drop>(
+    rt: &R,
+    sim: &mut Sim<A, WheelAgenda, S>,
+    rows: &mut Vec<Row>,
+) -> Result<Option<Ending>, Fail>
+    ensures stands { OnOk result ((s : SetupParts A) (k : ℕ) → StandsFor A.meaning s k (sim_of S.keeps sim.old)
+        → (j : ℕ) × StandsFor A.meaning s (k + j) (sim_of S.keeps sim.new)) }
+    ensures over { IfOk result (λ ended. (e : Ending) (s : SetupParts A) (k : ℕ) → ended ≡ Some e → StandsFor A.meaning s k (sim_of S.keeps sim.old)
+        → (o : Ending) × (sim.new.position ≡ position.Ended o)) }
+{
+    let went = sim.tick(rt, &OpenGate)?;
+    rows.extend_from_slice(sim.fresh()?.as_slice())?;
+    Ok(match went {
+        Progress::Ended(ending) => Some(ending),
+        Progress::Going => None,
+    })
+}
+
+/// Goes on at this pace, and adds the rows that are fresh. Some is how the run ended.
+fn go_on<R: Threads + Sync, A: Actor + Send + Sync + Drop, S: Sieve + Drop>(
+    rt: &R,
+    sim: &mut Sim<A, WheelAgenda, S>,
+    pace: Pace,
+    rows: &mut Vec<Row>,
+) -> Result<Option<Ending>, Fail>
+    ensures stands { OnOk result ((s : SetupParts A) (k : ℕ) → StandsFor A.meaning s k (sim_of S.keeps sim.old)
+        → (j : ℕ) × StandsFor A.meaning s (k + j) (sim_of S.keeps sim.new)) }
+    ensures over { IfOk result (λ ended. (e : Ending) (s : SetupParts A) (k : ℕ) → ended ≡ Some e → StandsFor A.meaning s k (sim_of S.keeps sim.old)
+        → (o : Ending) × (sim.new.position ≡ position.Ended o)) }
+{
+    match pace {
+        Pace::Moment => moment_on(rt, sim, rows),
+        Pace::Tick => tick_on(rt, sim, rows),
+    }
+}
+
+/// Whether one more moment changes nothing: the run is over, and stands where it ended.
+fn stays_over<R: AllocGlobal + Sync + Threads, A: Actor + Send + Sync + Drop>(
+    rt: &R,
+    sim: &mut Sim<A, WheelAgenda, KeepAll>,
+    plain: &Results,
+    ending: Ending,
+) -> Result<bool, Fail>
+    ensures same { (e : Ending) → sim.old.position ≡ position.Ended e → sim.new ≡ sim.old }
+{
+    let went = sim.diasca(rt, &OpenGate)?;
+    let cast = sim.copy_cast(rt.alloc())?;
+    let is_there = went == Step::Ended(ending) && sim.now() == plain.last;
+    Ok(is_there && is_same_cast(cast.as_slice(), plain.cast.as_slice()))
+}
+
 /// A run that is over stays so, and gives what it must.
 fn ends<R: Abort + AllocGlobal + Sync + Threads, A: Actor + Send + Sync + Drop>(
     rt: &R,
-    sim: Sim<A, WheelAgenda, KeepAll>,
+    mut sim: Sim<A, WheelAgenda, KeepAll>,
     plain: &Results,
     end: &End,
 ) -> Result<(), Fail>
     requires over { (e : Ending) × (sim.position ≡ position.Ended e) }
 {
-    let mut sim = sim;
-    let went = sim.diasca(rt, &OpenGate)?;
-    assert_eq!(rt; (went, sim.now()), (Step::Ended(end.ending), plain.last));
-    let cast = sim.copy_cast(rt.alloc())?;
-    assert!(rt; is_same_cast(cast.as_slice(), plain.cast.as_slice()));
+    let stays = stays_over(rt, &mut sim, plain, end.ending)?;
     let (results, rounds) = sim.results()?;
+    assert!(rt; stays);
     is_end(rt, &results, &rounds, plain, end);
     Ok(())
 }
 
-/// The run by ticks: the rows that were fresh after each of them, joined, are all.
-pub(crate) fn by_ticks<R: Abort + AllocGlobal + Sync + Threads, A: Actor + Send + Sync + Drop>(
+/// The run piece by piece: the rows that were fresh after each piece, joined, are all.
+pub(crate) fn by_pieces<R: Abort + AllocGlobal + Sync + Threads, A: Actor + Send + Sync + Drop>(
     rt: &R,
     setup: Setup<A>,
     plan: Plan,
+    pace: Pace,
     plain: &Results,
     end: &End,
 ) -> Result<(), Fail> {
-    let alloc = rt.alloc();
-    let mut sim = Sim::<A, WheelAgenda, _>::open(alloc, setup, plan, KeepAll)?;
-    let mut rows = Vec::new(alloc);
-    for _tick in 0..MOST {
-        let went = sim.tick(rt, &OpenGate)?;
-        rows.extend_from_slice(sim.fresh()?.as_slice())?;
-        if let Progress::Ended(ending) = went {
-            assert_eq!(rt; ending, end.ending);
-            assert!(rt; rows.as_slice() == plain.rows.as_slice());
-            return ends(rt, sim, plain, end);
-        }
-    }
-    Err(Fail::from("it goes on"))
-}
-
-/// The run by moments.
-pub(crate) fn by_moments<R: Abort + AllocGlobal + Sync + Threads, A: Actor + Send + Sync + Drop>(
-    rt: &R,
-    setup: Setup<A>,
-    plan: Plan,
-    plain: &Results,
-    end: &End,
-) -> Result<(), Fail> {
+    let mut rows = Vec::new(rt.alloc());
     let mut sim = Sim::<A, WheelAgenda, _>::open(rt.alloc(), setup, plan, KeepAll)?;
-    for _moment in 0..MOST {
-        let went = sim.diasca(rt, &OpenGate)?;
-        if let Step::Ended(ending) = went {
-            assert_eq!(rt; ending, end.ending);
+    for _piece in 0..MOST {
+        if let Some(ending) = go_on(rt, &mut sim, pace, &mut rows)? {
+            assert!(rt; ending == end.ending && rows.as_slice() == plain.rows.as_slice());
             return ends(rt, sim, plain, end);
         }
     }

@@ -1,6 +1,6 @@
 use crate::Elder;
 use crate::cases::{CASES, ELDERS, End, PLANS};
-use crate::pieces::{by_moments, by_ticks};
+use crate::pieces::{Pace, by_pieces};
 use actor_trait::Actor;
 use agenda_wheel::WheelAgenda;
 use placement::{Plan, Policy};
@@ -82,8 +82,8 @@ fn comes_to<R: Abort + AllocGlobal + Sync + Threads, A: Actor + Send + Sync + Dr
             rt, alloc, copy, plan, &OpenGate,
         )?;
         is_end(rt, &results, &rounds, &plain, end);
-        by_ticks(rt, setup.copy(alloc)?, plan, &plain, end)?;
-        by_moments(rt, setup.copy(alloc)?, plan, &plain, end)?;
+        by_pieces(rt, setup.copy(alloc)?, plan, Pace::Tick, &plain, end)?;
+        by_pieces(rt, setup.copy(alloc)?, plan, Pace::Moment, &plain, end)?;
     }
     Ok(())
 }

@@ -1,18 +1,9 @@
-//! Cases of the edge through its public calls: rules, the text of a run, scenarios and their canonical
-//! texts, actors of any kind, command words, and commands. What is expected was worked out by hand or by another
-//! program.
+//! Cases of the edge through its public calls: rules, the text of a run, command words, and commands. What is
+//! expected was worked out by hand or by another program.
 #![tactic(auto)]
 
 #[cfg(test)]
-mod any_actor_tests;
-#[cfg(test)]
-mod canonical_text_tests;
-#[cfg(test)]
 mod command_tests;
-#[cfg(test)]
-mod format_tests;
-#[cfg(test)]
-mod refusal_tests;
 #[cfg(test)]
 mod rule_tests;
 #[cfg(test)]

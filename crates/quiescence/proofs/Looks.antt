@@ -18,7 +18,11 @@ grows l m n x h = split_at (λ j. (k : ℕ) → at_pair l j k ≤ at_pair (put_p
     (split_at (λ k. at_pair l m k ≤ at_pair (put_pair l m n x) m k) n (let e = pair_here l m n x in omega arith) (λ k ne. let e = pair_beside l m n k x ne in omega arith))
     (λ j ne k. let e = pair_apart l m n j k x ne in omega arith)
 
-module _ (g h h' : Holding) (m n x : ℕ) (w : LookedFrom g h m n) (of : h'.round ≡ h.round) (is : h'.account ≡ record h.account { known = put_pair h.account.known m n x }) (more : (knows h.account m n ≤ x) × (posts h.account m n ≤ x)) where
+-- the account of a hand that has read this number for a pair
+abbrev told_of : Account → (m n x : ℕ) → Account
+told_of a m n x = record a { known = put_pair a.known m n x }
+
+module _ (g h h' : Holding) (m n x : ℕ) (w : LookedFrom g h m n) (of : h'.round ≡ h.round) (is : h'.account ≡ told_of h.account m n x) (more : (knows h.account m n ≤ x) × (posts h.account m n ≤ x)) where
   known : h'.account.known ≡ put_pair h.account.known m n x
   known = ap (λ (a : Account). a.known) is
 

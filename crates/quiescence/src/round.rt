@@ -37,7 +37,12 @@ impl Model for Round {
 
     ghost view = { λ r. record { table = r.table.shared.table_id; shape = r.frame } };
 
-    ghost invariant = { λ r. (r.table.shared.key ≡ r.frame) × (r.table.shared.table_id.words ≡ word_count r.frame) × Sized r.frame × (r.table.shared.table_id.slots ≡ 0) × (length r.words.items ≡ word_count r.frame) × (1 ≤ r.frame.hands) };
+    ghost invariant = { λ r. (r.table.shared.key ≡ r.frame)
+        × (r.table.shared.table_id.words ≡ word_count r.frame)
+        × Sized r.frame
+        × (r.table.shared.table_id.slots ≡ 0)
+        × (length r.words.items ≡ word_count r.frame)
+        × (1 ≤ r.frame.hands) };
 }
 
 impl Round {

@@ -39,4 +39,6 @@ returns c =
     let more : suc (k - 1) ≡ t.hands = omega arith in
     let account : c.loop-k.first.account ≡ record (blank t) { weight = 1 } = i.1 ∙ ap (λ (w : ℕ). record (blank t) { weight = w }) same in
     let hand : c.loop-k.first ≡ new_hand r = λ j. record { round = i.0 j; account = account j } in
-    c.in_ok-push-2.ensures.items ∙ ap (λ l. l ++ c.loop-k.first ∷ []) i.3 ∙ ap (λ (g : Holding). replicate (k - 1) (new_hand r) ++ g ∷ []) hand ∙ replicate_last (k - 1) (new_hand r) ∙ ap (λ (n : ℕ). replicate n (new_hand r)) more
+    c.in_ok-push-2.ensures.items ∙ ap (λ l. l ++ c.loop-k.first ∷ []) i.3
+    ∙ ap (λ (g : Holding). replicate (k - 1) (new_hand r) ++ g ∷ []) hand ∙ replicate_last (k - 1) (new_hand r)
+    ∙ ap (λ (n : ℕ). replicate n (new_hand r)) more

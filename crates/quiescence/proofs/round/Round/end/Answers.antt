@@ -1,4 +1,4 @@
-use Rattle.std.proofs.Common.{ℕ, ◌<◌, length, get_or, set, sym, ap, ◌∙◌, subst, arith, length-set, get_or-set_same, get_or-set_other}
+use Rattle.std.proofs.Common.{◌≡◌, ℕ, ◌<◌, length, get_or, set, sym, ap, ◌∙◌, subst, arith, length-set, get_or-set_same, get_or-set_other}
 use Rattle.std.specs.Slots.{slots_items, slots_counts}
 use mathlib.Core.Logic.{dite}
 use mathlib.Core.Option.{some}
@@ -23,7 +23,9 @@ loop-place-preserved c =
     let in_ : p < length ws = omega arith in (
       length-set ws p c.word.result ∙ wide,
       λ k l. dite (ℕ_discrete k p)
-          (λ e. ap (λ (j : ℕ). get_elem? (slots_items c.close_with-closed.result.words) j) e ∙ c.word.ensures ∙ ap (λ (x : ℕ). some x) (sym (ap (λ (j : ℕ). get_or (set ws p c.word.result) j 0) e ∙ get_or-set_same ws p c.word.result 0 in_)))
+          (λ e. let put : get_or (set ws p c.word.result) k 0 ≡ c.word.result =
+          ap (λ (j : ℕ). get_or (set ws p c.word.result) j 0) e ∙ get_or-set_same ws p c.word.result 0 in_ in
+          ap (λ (j : ℕ). get_elem? (slots_items c.close_with-closed.result.words) j) e ∙ c.word.ensures ∙ ap (λ (x : ℕ). some x) (sym put))
           (λ ne. c.loop-place.invariant.1 k (omega arith) ∙ ap (λ (x : ℕ). some x) (sym (get_or-set_other ws p k c.word.result 0 ne))),
     )
 

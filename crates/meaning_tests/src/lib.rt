@@ -3,6 +3,8 @@
 #![tactic(auto)]
 
 #[cfg(test)]
+mod ids_tests;
+#[cfg(test)]
 mod plain_run_tests;
 mod puppet;
 #[cfg(test)]

@@ -23,6 +23,7 @@ mod world;
 
 pub use births::{Newborn, bear_all, birth_letters, count_births, retired};
 pub use cast::{Member, add_members, copy_cast, opening_cast};
+pub use ids::merge_ids;
 pub use kind::{Kind, SharedKind};
 pub use laws::{each_run_ends, each_run_goes_on, each_world_is_whole};
 pub use next::Next;

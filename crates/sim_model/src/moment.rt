@@ -8,7 +8,7 @@ ghost use Rattle.sim_model.specs.Setups.{Ascend};
 ghost use Rattle.sim_model.specs.Stepping.{RisesFrom, is_occupied};
 ghost use Rattle.sim_model.specs.Whole.{IsWhole};
 
-use crate::ids::{contains, merge};
+use crate::ids::{contains, merge_ids};
 use crate::{Next, Report, WorldState};
 use actor_trait::{Actor, Context, Event, Letter, Precedence};
 use inbox_order::Inboxes;
@@ -92,7 +92,7 @@ impl<A: Actor + Drop> WorldState<A> {
         ensures left { OnOk result (self.new ≡ record self.old { agenda = agenda_at self.old at }) }
     {
         if at.diasca != 0 {
-            merge(ids, self.newborn.as_slice(), inboxes.recipients())
+            merge_ids(ids, self.newborn.as_slice(), inboxes.recipients())
         } else if at.tick == 0 {
             add_living(ids, self.states.as_slice())
         } else {

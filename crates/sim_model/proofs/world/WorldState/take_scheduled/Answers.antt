@@ -5,8 +5,8 @@ use Rattle.sim_model.proofs.Ascending.{from_increasing}
 use Rattle.sim_model.proofs.Entering.{called_of, calls_at}
 use Rattle.sim_model.proofs.world.WorldState.take_scheduled.Goals as goal
 
-pub merge-requires-clause-others : goal.merge-requires-clause-others
-merge-requires-clause-others g c = from_increasing (λ a. a.0) c.recipients.result.now c.recipients.ensures.ascending
+pub merge_ids-requires-clause-others : goal.merge_ids-requires-clause-others
+merge_ids-requires-clause-others g c = from_increasing (λ a. a.0) c.recipients.result.now c.recipients.ensures.ascending
 
 pub returns-then-at-ne0-clause-ids : goal.returns-then-at-ne0-clause-ids
 returns-then-at-ne0-clause-ids g c =
@@ -14,4 +14,4 @@ returns-then-at-ne0-clause-ids g c =
     let called = called_of c.args.self.now c.args.at c.args.inboxes.now c.recipients.result.now later c.requires.inboxes c.recipients.ensures.each in
     let merged : in_order_once (c.as_slice.result.now ++ c.recipients.result.now) ≡ scheduled c.args.self.now c.args.at =
     rw c.as_slice.ensures (called ∙ sym (calls_at c.args.self.now c.args.at later).scheduled) in
-    subst (λ l. OnOk c.merge.result (c.merge.new.into.items ≡ c.args.ids.now.items ++ l)) merged c.merge.ensures
+    subst (λ l. OnOk c.merge_ids.result (c.merge_ids.new.into.items ≡ c.args.ids.now.items ++ l)) merged c.merge_ids.ensures

@@ -2,7 +2,7 @@ use crate::steps::{Step, Why, at, each_comes_to, event, has_names};
 use actor_trait::{
     Actor, Ball, Clock, FaultCode, Fuse, Outcome, Parcel, Payload, Sample, fault_of,
 };
-use sim_base::{ActorId, Items, Memory, Moment};
+use sim_base::{ActorId, Few, Items, Memory, Moment};
 use std::alloc::Global;
 use std::test::Fail;
 
@@ -90,10 +90,10 @@ fn outcome(alloc: Global, shown: Shown) -> Result<Outcome<Clock>, Memory> {
     let sample = Sample { probe, value: 0 };
     Ok(Outcome {
         state: clock(),
-        sends: Items::of(vec![in alloc; parcel; sends]?),
-        ticks: Items::of(vec![in alloc; tick; ticks]?),
+        sends: Few::of(vec![in alloc; parcel; sends]?),
+        ticks: Few::of(vec![in alloc; tick; ticks]?),
         births: Items::of(vec![in alloc; clock(); births]?),
-        samples: Items::of(vec![in alloc; sample; samples]?),
+        samples: Few::of(vec![in alloc; sample; samples]?),
         retire: false,
         fault: FaultCode::of(own),
     })

@@ -3,7 +3,7 @@ ghost use Rattle.std.specs.List.{count_by, list_any};
 ghost use Rattle.actor_trait.specs.Balls.{ball_to, goes_back, is_ball};
 
 use crate::{Actor, Context, Event, Letter, Outcome, Parcel, Payload, Sample};
-use sim_base::{ActorId, Items, Memory};
+use sim_base::{ActorId, Few, Items, Memory};
 use std::alloc::Global;
 use std::marker::Model;
 
@@ -42,7 +42,7 @@ impl Ball {
     ghost use Rattle.actor_trait.specs.Balls.{catch, ball_back};
 
     /// Counts a ball and returns it while hits are left; any other letter is ignored.
-    fn catch(&mut self, letter: &Letter, sends: &mut Items<Parcel>) -> Result<(), Memory>
+    fn catch(&mut self, letter: &Letter, sends: &mut Few<Parcel, 1>) -> Result<(), Memory>
         ensures state { OnOk result (self.new ≡ catch self.old letter.now) }
         ensures sends { OnOk result (sends.new ≡ sends.old ++ ball_back letter.now) }
     {
@@ -51,12 +51,12 @@ impl Ball {
         }
         if goes_back(letter) {
             let back = ball_to(letter.from, letter.payload.a - 1);
-            sends.push(back).map_err(|_| Memory)?;
+            sends.add(back)?;
         }
         Ok(())
     }
 
-    fn catch_all(&mut self, inbox: &[Letter], sends: &mut Items<Parcel>) -> Result<(), Memory>
+    fn catch_all(&mut self, inbox: &[Letter], sends: &mut Few<Parcel, 1>) -> Result<(), Memory>
         ensures state { OnOk result (self.new ≡ fold catch self.old inbox.now) }
         ensures sends { OnOk result (sends.new ≡ sends.old ++ flat_map ball_back inbox.now) }
     {
@@ -113,16 +113,16 @@ impl Actor for Ball {
         event: &Event<'_>,
     ) -> Result<Outcome<Self>, Memory> {
         let sent = count_back(event.inbox).saturating_add(usize::from(event.spontaneous));
-        let mut sends = Items::with_room(alloc, sent)?;
-        let mut ticks = Items::new(alloc);
-        let mut samples = Items::new(alloc);
+        let mut sends = Few::with_room(alloc, sent)?;
+        let mut ticks = Few::new(alloc);
+        let mut samples = Few::new(alloc);
         let mut state = *self;
         if event.first && self.hits > 0 {
-            ticks.push(self.at).map_err(|_| Memory)?;
+            ticks.add(self.at)?;
         }
         if event.spontaneous {
             let served = ball_to(self.peer, self.hits);
-            sends.push(served).map_err(|_| Memory)?;
+            sends.add(served)?;
         }
         state.catch_all(event.inbox, &mut sends)?;
         if has_ball(event.inbox) {
@@ -130,7 +130,7 @@ impl Actor for Ball {
                 probe: 0,
                 value: state.received,
             };
-            samples.push(sample).map_err(|_| Memory)?;
+            samples.add(sample)?;
         }
         Ok(Outcome {
             state,

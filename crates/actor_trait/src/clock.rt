@@ -1,7 +1,7 @@
 ghost use Rattle.std.specs.Prelude.{◌≡◌, ◌++◌, OnOk, refl};
 
 use crate::{Actor, Context, Event, Outcome, Sample};
-use sim_base::{Items, Memory};
+use sim_base::{Few, Items, Memory};
 use std::alloc::Global;
 use std::marker::Model;
 
@@ -33,12 +33,12 @@ impl Clock {
     ghost use Rattle.actor_trait.specs.Clocks.{next_beat};
 
     /// While beats are left, asks the tick one period later.
-    fn ask(&self, context: &Context, ticks: &mut Items<u64>) -> Result<(), Memory>
+    fn ask(&self, context: &Context, ticks: &mut Few<u64, 1>) -> Result<(), Memory>
         ensures { OnOk result (ticks.new ≡ ticks.old ++ next_beat self.now context.entry.now) }
     {
         if self.beats < self.count {
             let next = context.now.tick.saturating_add(self.period);
-            ticks.push(next).map_err(|_| Memory)?;
+            ticks.add(next)?;
         }
         Ok(())
     }
@@ -55,8 +55,8 @@ impl Actor for Clock {
         context: &Context,
         event: &Event<'_>,
     ) -> Result<Outcome<Self>, Memory> {
-        let mut ticks = Items::new(alloc);
-        let mut samples = Items::new(alloc);
+        let mut ticks = Few::new(alloc);
+        let mut samples = Few::new(alloc);
         let mut state = *self;
         if event.first {
             self.ask(context, &mut ticks)?;
@@ -67,12 +67,12 @@ impl Actor for Clock {
                 probe: 0,
                 value: state.beats,
             };
-            samples.push(sample).map_err(|_| Memory)?;
+            samples.add(sample)?;
             state.ask(context, &mut ticks)?;
         }
         Ok(Outcome {
             state,
-            sends: Items::new(alloc),
+            sends: Few::new(alloc),
             ticks,
             births: Items::new(alloc),
             samples,

@@ -1,7 +1,7 @@
 ghost use Rattle.std.specs.Prelude.{◌≡◌, [], Some, refl};
 
 use crate::{Actor, Context, Event, FaultCode, Outcome};
-use sim_base::{Items, Memory};
+use sim_base::{Few, Items, Memory};
 use std::alloc::Global;
 use std::marker::Model;
 
@@ -45,17 +45,17 @@ impl Actor for Fuse {
         _context: &Context,
         event: &Event<'_>,
     ) -> Result<Outcome<Self>, Memory> {
-        let mut ticks = Items::new(alloc);
+        let mut ticks = Few::new(alloc);
         if event.first && self.at != 0 {
-            ticks.push(self.at).map_err(|_| Memory)?;
+            ticks.add(self.at)?;
         }
         let burns = (event.first && self.at == 0) || event.spontaneous;
         Ok(Outcome {
             state: *self,
-            sends: Items::new(alloc),
+            sends: Few::new(alloc),
             ticks,
             births: Items::new(alloc),
-            samples: Items::new(alloc),
+            samples: Few::new(alloc),
             retire: false,
             fault: if burns { self.fault() } else { None },
         })

@@ -2,7 +2,7 @@ use sim_base::ActorId;
 
 /// What a letter says: a code of its model's own, and two numbers. No other data travels between
 /// actors.
-#[derive(Clone, Copy, Debug, PartialEq, Eq)]
+#[derive(Clone, Copy, Debug, Default, PartialEq, Eq)]
 pub struct Payload {
     /// What kind of letter it is; its sender's and its recipient's models agree on the codes.
     pub code: u32,
@@ -26,7 +26,7 @@ pub struct Letter {
 }
 
 /// What an actor sends: a letter that doesn't yet know its sender and its serial.
-#[derive(Clone, Copy, Debug, PartialEq, Eq)]
+#[derive(Clone, Copy, Debug, Default, PartialEq, Eq)]
 pub struct Parcel {
     /// Who is to receive it.
     pub to: ActorId,

@@ -2,7 +2,7 @@ ghost use Rattle.std.specs.Prelude.{◌≡◌, [], IfOk, refl, replicate};
 ghost use Rattle.crew_tests.specs.Scribes.{heir, page_at, written};
 
 use actor_trait::{Actor, Context, Event, FaultCode, Outcome, Parcel, Payload};
-use sim_base::{ActorId, Items, Memory};
+use sim_base::{ActorId, Few, Items, Memory};
 use std::alloc::Global;
 
 /// What a scribe does at an event.
@@ -60,7 +60,7 @@ impl Scribe {
 }
 
 impl Page {
-    fn sends(&self, alloc: Global) -> Result<Items<Parcel>, Memory>
+    fn sends(&self, alloc: Global) -> Result<Few<Parcel, 1>, Memory>
         ensures { IfOk result (λ sends. sends ≡ replicate self.now.letters (written self.now)) }
     {
         let parcel = Parcel {
@@ -71,7 +71,7 @@ impl Page {
                 b: 0,
             },
         };
-        Ok(Items::of(vec![in alloc; parcel; self.letters as usize]?))
+        Ok(Few::of(vec![in alloc; parcel; self.letters as usize]?))
     }
 
     fn heirs(&self, alloc: Global) -> Result<Items<Scribe>, Memory>
@@ -96,9 +96,9 @@ impl Actor for Scribe {
         Ok(Outcome {
             state: *self,
             sends: page.sends(alloc)?,
-            ticks: Items::new(alloc),
+            ticks: Few::new(alloc),
             births: page.heirs(alloc)?,
-            samples: Items::new(alloc),
+            samples: Few::new(alloc),
             retire: page.retires,
             fault: FaultCode::of(page.fault),
         })

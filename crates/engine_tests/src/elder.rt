@@ -2,7 +2,7 @@ ghost use Rattle.std.specs.Prelude.{◌≡◌, refl};
 ghost use Rattle.engine_tests.specs.Elders.{heir, heirs_at, sample};
 
 use actor_trait::{Actor, Context, Event, Outcome, Sample};
-use sim_base::{Items, Memory};
+use sim_base::{Few, Items, Memory};
 use std::alloc::Global;
 
 /// An actor that bears its heir at its first event and retires, unless it is the last. Its one probe,
@@ -54,10 +54,10 @@ impl Actor for Elder {
         let heirs = heirs_at(event.first, self.left);
         Ok(Outcome {
             state: *self,
-            sends: Items::new(alloc),
-            ticks: Items::new(alloc),
+            sends: Few::new(alloc),
+            ticks: Few::new(alloc),
             births: Items::of(vec![in alloc; self.heir(); heirs as usize]?),
-            samples: Items::of(vec![in alloc; self.sample(); 1]?),
+            samples: Few::of(vec![in alloc; self.sample(); 1]?),
             retire: heirs == 1,
             fault: None,
         })

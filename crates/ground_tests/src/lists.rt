@@ -1,6 +1,6 @@
 ghost use Rattle.std.specs.Prelude.{◌≡◌, ◌<◌};
 
-use sim_base::{Items, Memory, Roomy, Steps};
+use sim_base::{Few, Items, Memory, Roomy, Steps};
 use std::marker::Brand;
 use std::sync::ledger::{Blank, Ledger};
 use std::test::Fail;
@@ -22,6 +22,22 @@ fn lists_grow_and_are_read(rt: HostRuntime) -> Result<(), Fail> {
     one.add(7u64)?;
     assert_eq!(rt; one.into_vec().capacity(), 1);
     assert_eq!(rt; format!(in rt.alloc(); "{Memory}")?.as_str(), "no memory");
+    Ok(())
+}
+
+#[test]
+fn a_short_list_grows_past_its_places(rt: HostRuntime) -> Result<(), Fail> {
+    let mut few: Few<u64, 2> = Few::new(rt.alloc());
+    assert!(rt; few.is_empty());
+    few.add(7)?;
+    few.add(9)?;
+    few.add(8)?;
+    assert_eq!(rt; few.len(), 3);
+    assert_eq!(rt; few.as_slice(), [7, 9, 8].as_slice());
+    let given: Few<u64, 1> = Few::of(few.as_slice().to_vec(rt.alloc())?);
+    let mut roomy: Few<u64, 1> = Few::with_room(rt.alloc(), 4)?;
+    roomy.add(7)?;
+    assert_eq!(rt; (given.len(), roomy.len()), (3, 1));
     Ok(())
 }
 

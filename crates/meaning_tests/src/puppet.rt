@@ -2,7 +2,7 @@ ghost use Rattle.std.specs.Prelude.{◌≡◌, IfOk, map, replicate, refl};
 ghost use Rattle.meaning_tests.specs.Puppets.{heard, listener, said, taken, times};
 
 use actor_trait::{Actor, Context, Event, FaultCode, Letter, Outcome, Parcel, Payload, Sample};
-use sim_base::{ActorId, Items, Memory};
+use sim_base::{ActorId, Few, Items, Memory};
 use std::alloc::{AllocError, Global};
 
 /// An actor that does what its fields tell, be it allowed or not, at its tick and at each that it
@@ -66,21 +66,21 @@ impl Puppet {
         }
     }
 
-    fn asks(&self, alloc: Global, event: &Event<'_>) -> Result<Items<u64>, Memory>
+    fn asks(&self, alloc: Global, event: &Event<'_>) -> Result<Few<u64, 1>, Memory>
         ensures { IfOk result (λ ticks. ticks ≡ puppet_asks self.now (seen event.now.first event.now.spontaneous event.now.inbox.now)) }
     {
         if event.spontaneous {
-            return Ok(Items::of(vec![in alloc; self.next; self.ticks as usize]?));
+            return Ok(Few::of(vec![in alloc; self.next; self.ticks as usize]?));
         }
         let n = times(event.first && self.at != 0, 1);
-        Ok(Items::of(vec![in alloc; self.at; n as usize]?))
+        Ok(Few::of(vec![in alloc; self.at; n as usize]?))
     }
 
-    fn sends(&self, alloc: Global, acts: bool) -> Result<Items<Parcel>, Memory>
+    fn sends(&self, alloc: Global, acts: bool) -> Result<Few<Parcel, 1>, Memory>
         ensures { IfOk result (λ sends. sends ≡ replicate (times acts self.now.sends) (said self.now)) }
     {
         let n = times(acts, self.sends);
-        Ok(Items::of(vec![in alloc; self.said(); n as usize]?))
+        Ok(Few::of(vec![in alloc; self.said(); n as usize]?))
     }
 
     fn births(&self, alloc: Global, acts: bool) -> Result<Items<Puppet>, Memory>
@@ -90,14 +90,14 @@ impl Puppet {
         Ok(Items::of(vec![in alloc; LISTENER; n as usize]?))
     }
 
-    fn samples(&self, alloc: Global) -> Result<Items<Sample>, Memory>
+    fn samples(&self, alloc: Global) -> Result<Few<Sample, 2>, Memory>
         ensures { IfOk result (λ samples. samples ≡ replicate self.now.samples (taken self.now)) }
     {
         let taken = Sample {
             probe: self.probe,
             value: 0,
         };
-        Ok(Items::of(vec![in alloc; taken; self.samples as usize]?))
+        Ok(Few::of(vec![in alloc; taken; self.samples as usize]?))
     }
 }
 
@@ -139,7 +139,7 @@ impl Actor for Puppet {
         let samples = if acts {
             self.samples(alloc)?
         } else {
-            Items::of(hear(alloc, event.inbox)?)
+            Few::of(hear(alloc, event.inbox)?)
         };
         Ok(Outcome {
             state: *self,

@@ -5,7 +5,7 @@ ghost use Rattle.std.specs.List.{count_by};
 ghost use Rattle.road_model.specs.Letters.{has_code, is_birth, parcel};
 
 use actor_trait::{Letter, Parcel, Payload};
-use sim_base::{ActorId, Items, Memory};
+use sim_base::{ActorId, Few, Memory};
 
 /// To a road: the sender would enter it.
 pub(crate) const ENTER: u32 = 20;
@@ -23,11 +23,11 @@ const BALANCER: u32 = 0;
 const BIRTH: u32 = 0;
 
 /// Sends a letter with a code and a number.
-pub(crate) fn send(sends: &mut Items<Parcel>, to: ActorId, code: u32, a: i64) -> Result<(), Memory>
+pub(crate) fn send(sends: &mut Few<Parcel, 1>, to: ActorId, code: u32, a: i64) -> Result<(), Memory>
     ensures { OnOk result (sends.new ≡ sends.old ++ parcel to code a ∷ []) }
 {
     let payload = Payload { code, a, b: 0 };
-    sends.push(Parcel { to, payload }).map_err(|_| Memory)
+    sends.add(Parcel { to, payload })
 }
 
 /// How many letters have a code.

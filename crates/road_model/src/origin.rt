@@ -5,7 +5,7 @@ use crate::Vehicle;
 use crate::copies::copy_ids;
 use crate::letters::count_births;
 use actor_trait::{Bearing, Context, Event, Sample};
-use sim_base::{ActorId, Items, Memory};
+use sim_base::{ActorId, Few, Items, Memory};
 use std::alloc::Global;
 use std::marker::Model;
 
@@ -50,9 +50,9 @@ impl Origin {
         ensures { IfOk result (λ bearing. bearing ≡ origin_bears self.now context.entry.now (seen event.now.first event.now.spontaneous event.now.inbox.now)) }
     {
         let mut state = self.copy(alloc)?;
-        let mut ticks = Items::new(alloc);
+        let mut ticks = Few::new(alloc);
         let mut births = Items::new(alloc);
-        let mut samples = Items::new(alloc);
+        let mut samples = Few::new(alloc);
         if event.first {
             self.ask(context, &mut ticks)?;
         }
@@ -68,11 +68,11 @@ impl Origin {
                 probe: 0,
                 value: state.born,
             };
-            samples.push(sample).map_err(|_| Memory)?;
+            samples.add(sample)?;
         }
         Ok(Bearing {
             state,
-            sends: Items::new(alloc),
+            sends: Few::new(alloc),
             ticks,
             births,
             samples,
@@ -120,12 +120,12 @@ impl Origin {
     }
 
     /// While some are left, asks the tick one period later.
-    fn ask(&self, context: &Context, ticks: &mut Items<u64>) -> Result<(), Memory>
+    fn ask(&self, context: &Context, ticks: &mut Few<u64, 1>) -> Result<(), Memory>
         ensures { OnOk result (ticks.new ≡ ticks.old ++ next_birth self.now context.entry.now) }
     {
         if self.left > 0 {
             let next = context.now.tick.saturating_add(self.period);
-            ticks.push(next).map_err(|_| Memory)?;
+            ticks.add(next)?;
         }
         Ok(())
     }

@@ -6,7 +6,7 @@ use crate::copies::copy_ids;
 use crate::letters::{ENTER, LEAVE};
 use crate::traffic::Traffic;
 use actor_trait::{Actor, Context, Event, Letter, Outcome, Sample};
-use sim_base::{ActorId, Items, Memory};
+use sim_base::{ActorId, Few, Items, Memory};
 use std::alloc::Global;
 use std::marker::Model;
 
@@ -41,7 +41,7 @@ impl Road {
     ghost use Rattle.road_model.specs.Roads.{road_samples};
 
     /// How many cars are on it, and how many wait.
-    fn samples(&self, alloc: Global) -> Result<Items<Sample>, Memory>
+    fn samples(&self, alloc: Global) -> Result<Few<Sample, 2>, Memory>
         ensures { IfOk result (λ samples. samples ≡ road_samples self.now) }
     {
         let cars = Sample {
@@ -52,7 +52,10 @@ impl Road {
             probe: 1,
             value: self.queue.as_slice().len() as i64,
         };
-        Ok(Items::of(vec![in alloc; cars, queue]?))
+        let mut samples = Few::new(alloc);
+        samples.add(cars)?;
+        samples.add(queue)?;
+        Ok(samples)
     }
 }
 
@@ -79,12 +82,12 @@ impl Actor for Road {
         let samples = if event.first || is_passed(event.inbox) {
             state.samples(alloc)?
         } else {
-            Items::new(alloc)
+            Few::new(alloc)
         };
         Ok(Outcome {
             state,
             sends,
-            ticks: Items::new(alloc),
+            ticks: Few::new(alloc),
             births: Items::new(alloc),
             samples,
             retire: false,

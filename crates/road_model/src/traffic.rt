@@ -6,7 +6,7 @@ use crate::Road;
 use crate::copies::copy_ids;
 use crate::letters::{ADMIT, ENTER, LEAVE, count, send};
 use actor_trait::{Letter, Parcel};
-use sim_base::{ActorId, Items, Memory};
+use sim_base::{ActorId, Few, Items, Memory};
 use std::alloc::Global;
 use std::collections::VecDeque;
 use std::marker::Model;
@@ -18,7 +18,7 @@ pub(crate) struct Traffic {
     room: i64,
     cars: i64,
     queue: VecDeque<ActorId>,
-    sends: Items<Parcel>,
+    sends: Few<Parcel, 1>,
 }
 
 impl Model for Traffic {
@@ -54,12 +54,12 @@ impl Traffic {
             room: road.room,
             cars: road.cars,
             queue: VecDeque::from(queue),
-            sends: Items::with_room(alloc, cars.min(places))?,
+            sends: Few::with_room(alloc, cars.min(places))?,
         })
     }
 
     /// The road after its letters, and what it sends.
-    pub(crate) fn close(self) -> (Road, Items<Parcel>)
+    pub(crate) fn close(self) -> (Road, Few<Parcel, 1>)
         ensures road { result.0 ≡ self.road }
         ensures sends { result.1 ≡ self.sends }
     {

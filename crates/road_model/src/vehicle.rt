@@ -6,7 +6,7 @@ ghost use Rattle.road_model.specs.Vehicles.{hear};
 use crate::copies::copy_ids;
 use crate::letters::{ADMIT, ENTER, LEAVE, send};
 use actor_trait::{Actor, Context, Event, Letter, Outcome, Parcel, Sample};
-use sim_base::{ActorId, Items, Memory};
+use sim_base::{ActorId, Few, Items, Memory};
 use std::alloc::Global;
 use std::marker::Model;
 
@@ -106,9 +106,9 @@ fn ticks_between(from: u64, to: u64) -> i64
 #[derive(Drop)]
 struct Drive {
     vehicle: Vehicle,
-    sends: Items<Parcel>,
-    ticks: Items<u64>,
-    samples: Items<Sample>,
+    sends: Few<Parcel, 1>,
+    ticks: Few<u64, 1>,
+    samples: Few<Sample, 2>,
     retires: bool,
 }
 
@@ -130,7 +130,7 @@ impl Drive {
     {
         self.retires = true;
         let trip = self.vehicle.trip(context);
-        self.samples.push(trip).map_err(|_| Memory)?;
+        self.samples.add(trip)?;
         send(&mut self.sends, self.vehicle.road(), LEAVE, 0)
     }
 
@@ -168,9 +168,9 @@ impl Drive {
             probe: 0,
             value: i64::from(leg) + 1,
         };
-        self.samples.push(sample).map_err(|_| Memory)?;
+        self.samples.add(sample)?;
         let end = context.now.tick.saturating_add(length.unsigned_abs());
-        self.ticks.push(end).map_err(|_| Memory)
+        self.ticks.add(end)
     }
 
     /// Enters the road that lets it in; any other letter is ignored.
@@ -206,9 +206,9 @@ impl Actor for Vehicle {
     ) -> Result<Outcome<Self>, Memory> {
         let mut drive = Drive {
             vehicle: self.copy(alloc)?,
-            sends: Items::new(alloc),
-            ticks: Items::new(alloc),
-            samples: Items::new(alloc),
+            sends: Few::new(alloc),
+            ticks: Few::new(alloc),
+            samples: Few::new(alloc),
             retires: false,
         };
         if event.first {

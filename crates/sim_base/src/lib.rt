@@ -5,6 +5,7 @@
 mod bytes_in;
 mod bytes_out;
 mod calls;
+mod few;
 mod gate;
 mod ids;
 mod items;
@@ -22,6 +23,7 @@ mod writer_out;
 
 pub use bytes_in::{BytesIn, SteadyIn};
 pub use bytes_out::{BytesOut, NullOut};
+pub use few::Few;
 pub use gate::{Gate, OpenGate};
 pub use ids::{ActorId, ManagerId, NodeId};
 pub use items::Items;

@@ -1,8 +1,8 @@
 //! Each type of data here can be moved and lent to threads.
 
 use crate::{
-    ActorId, BytesIn, BytesOut, Ending, Items, ManagerId, Memory, Moment, Name, NodeId, NullOut,
-    OpenGate, Put, ReadFault, Roomy, Row, Status, SteadyIn, Taken,
+    ActorId, BytesIn, BytesOut, Ending, Few, Items, ManagerId, Memory, Moment, Name, NodeId,
+    NullOut, OpenGate, Put, ReadFault, Roomy, Row, Status, SteadyIn, Taken,
 };
 
 fn crosses_threads<T: Send + Sync>() {}
@@ -17,6 +17,7 @@ fn data_crosses_threads<T: Send + Sync>() {
     crosses_threads::<Row>();
     crosses_threads::<Name>();
     crosses_threads::<Memory>();
+    crosses_threads::<Few<T, 1>>();
     crosses_threads::<Items<T>>();
     crosses_threads::<Roomy<T>>();
     crosses_threads::<Taken>();

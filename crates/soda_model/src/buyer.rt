@@ -9,7 +9,7 @@ ghost use Rattle.soda_model.specs.Letters.{offer_to};
 
 use crate::letters::{CAN, OFFER, REFUND, send};
 use actor_trait::{Context, Event, Letter, Outcome, Parcel, Sample};
-use sim_base::{ActorId, Items, Memory};
+use sim_base::{ActorId, Few, Items, Memory};
 use std::alloc::Global;
 
 /// How long a customer waits until it buys again.
@@ -39,10 +39,10 @@ impl Buyer {
     }
 
     /// Its offer to its machine, if it buys.
-    fn offers(&self, alloc: Global, buys: bool) -> Result<Items<Parcel>, Memory>
+    fn offers(&self, alloc: Global, buys: bool) -> Result<Few<Parcel, 1>, Memory>
         ensures { IfOk result (λ sends. sends ≡ (if buys then offer_to self.now.machine self.now.offer ∷ [] else [])) }
     {
-        let mut sends = Items::new(alloc);
+        let mut sends = Few::new(alloc);
         if buys {
             send(&mut sends, self.machine, OFFER, self.offer, 0)?;
         }
@@ -77,7 +77,7 @@ impl Buyer {
     }
 
     /// Its cans and its money.
-    fn samples(&self, alloc: Global) -> Result<Items<Sample>, Memory>
+    fn samples(&self, alloc: Global) -> Result<Few<Sample, 2>, Memory>
         ensures { IfOk result (λ samples. samples ≡ buyer_samples self.now) }
     {
         let cans = Sample {
@@ -88,7 +88,10 @@ impl Buyer {
             probe: 1,
             value: self.money,
         };
-        Ok(Items::of(vec![in alloc; cans, money]?))
+        let mut samples = Few::new(alloc);
+        samples.add(cans)?;
+        samples.add(money)?;
+        Ok(samples)
     }
 }
 
@@ -123,17 +126,17 @@ fn ask<W: Waiting>(
     context: &Context,
     first: bool,
     buys: bool,
-) -> Result<Items<u64>, Memory>
+) -> Result<Few<u64, 1>, Memory>
     ensures { IfOk result (λ ticks. ticks ≡ ask context.entry.now (W.wait_of waiting.now context.entry.now) first buys) }
 {
-    let mut ticks = Items::with_room(alloc, usize::from(first) + usize::from(buys))?;
+    let mut ticks = Few::with_room(alloc, usize::from(first) + usize::from(buys))?;
     if first || buys {
         let next = context.now.tick.saturating_add(waiting.wait(context));
         if first {
-            ticks.push(next).map_err(|_| Memory)?;
+            ticks.add(next)?;
         }
         if buys {
-            ticks.push(next).map_err(|_| Memory)?;
+            ticks.add(next)?;
         }
     }
     Ok(ticks)
@@ -156,7 +159,7 @@ pub(crate) fn shop<W: Waiting>(
     let samples = if any_answer(buyer.machine, event.inbox) {
         after.samples(alloc)?
     } else {
-        Items::new(alloc)
+        Few::new(alloc)
     };
     Ok(Outcome {
         state: after,

@@ -5,7 +5,7 @@ ghost use Rattle.soda_model.specs.Depots.{is_birth, hear};
 
 use crate::Refill;
 use actor_trait::{Bearing, Context, Event, Letter, Sample};
-use sim_base::{ActorId, Items, Memory};
+use sim_base::{ActorId, Few, Items, Memory};
 use std::alloc::Global;
 use std::marker::Model;
 
@@ -55,10 +55,10 @@ impl Depot {
     ) -> Result<Bearing<Depot, Refill>, Memory>
         ensures { IfOk result (λ bearing. bearing ≡ depot_bears self.now context.entry.now (seen event.now.first event.now.spontaneous event.now.inbox.now)) }
     {
-        let mut ticks = Items::new(alloc);
-        let mut samples = Items::new(alloc);
+        let mut ticks = Few::new(alloc);
+        let mut samples = Few::new(alloc);
         if event.first {
-            ticks.push(self.at).map_err(|_| Memory)?;
+            ticks.add(self.at)?;
         }
         let births = if event.spontaneous {
             self.refills(alloc)?
@@ -71,11 +71,11 @@ impl Depot {
                 probe: 0,
                 value: state.born,
             };
-            samples.push(sample).map_err(|_| Memory)?;
+            samples.add(sample)?;
         }
         Ok(Bearing {
             state,
-            sends: Items::new(alloc),
+            sends: Few::new(alloc),
             ticks,
             births,
             samples,

@@ -4,7 +4,7 @@ ghost use Rattle.std.specs.Prelude.{◌≡◌, [], ◌∷◌, ◌++◌, OnOk};
 ghost use Rattle.soda_model.specs.Letters.{parcel};
 
 use actor_trait::{Parcel, Payload};
-use sim_base::{ActorId, Items, Memory};
+use sim_base::{ActorId, Few, Memory};
 
 /// To a machine: `a` is money for a can.
 pub(crate) const OFFER: u32 = 10;
@@ -26,7 +26,7 @@ pub(crate) const TOO_LITTLE: i64 = 2;
 
 /// Sends a letter.
 pub(crate) fn send(
-    sends: &mut Items<Parcel>,
+    sends: &mut Few<Parcel, 1>,
     to: ActorId,
     code: u32,
     a: i64,
@@ -35,5 +35,5 @@ pub(crate) fn send(
     ensures { OnOk result (sends.new ≡ sends.old ++ parcel to code a b ∷ []) }
 {
     let payload = Payload { code, a, b };
-    sends.push(Parcel { to, payload }).map_err(|_| Memory)
+    sends.add(Parcel { to, payload })
 }

@@ -5,7 +5,7 @@ ghost use Rattle.soda_model.specs.Machines.{is_asked, serve};
 
 use crate::letters::{CAN, FILL, OFFER, REFUND, SOLD_OUT, TOO_LITTLE, send};
 use actor_trait::{Actor, Context, Event, Letter, Outcome, Parcel, Sample};
-use sim_base::{ActorId, Items, Memory};
+use sim_base::{ActorId, Few, Items, Memory};
 use std::alloc::Global;
 use std::marker::Model;
 
@@ -67,7 +67,7 @@ impl Machine {
     }
 
     /// Its stock and its coins.
-    fn samples(&self, alloc: Global) -> Result<Items<Sample>, Memory>
+    fn samples(&self, alloc: Global) -> Result<Few<Sample, 2>, Memory>
         ensures { IfOk result (λ samples. samples ≡ machine_samples self.now) }
     {
         let stock = Sample {
@@ -78,7 +78,10 @@ impl Machine {
             probe: 1,
             value: self.coins,
         };
-        Ok(Items::of(vec![in alloc; stock, coins]?))
+        let mut samples = Few::new(alloc);
+        samples.add(stock)?;
+        samples.add(coins)?;
+        Ok(samples)
     }
 }
 
@@ -86,7 +89,7 @@ impl Machine {
 #[derive(Drop)]
 struct Trade {
     machine: Machine,
-    sends: Items<Parcel>,
+    sends: Few<Parcel, 1>,
 }
 
 impl Trade {
@@ -156,20 +159,20 @@ impl Actor for Machine {
         _context: &Context,
         event: &Event<'_>,
     ) -> Result<Outcome<Self>, Memory> {
-        let mut ticks = Items::new(alloc);
+        let mut ticks = Few::new(alloc);
         if event.first && self.close_at != 0 {
-            ticks.push(self.close_at).map_err(|_| Memory)?;
+            ticks.add(self.close_at)?;
         }
         let mut trade = Trade {
             machine: *self,
-            sends: Items::with_room(alloc, offers(event.inbox))?,
+            sends: Few::with_room(alloc, offers(event.inbox))?,
         };
         serve_all(&mut trade, event.inbox)?;
         let Trade { machine, sends } = trade;
         let samples = if event.first || is_asked(event.inbox) {
             machine.samples(alloc)?
         } else {
-            Items::new(alloc)
+            Few::new(alloc)
         };
         Ok(Outcome {
             state: machine,

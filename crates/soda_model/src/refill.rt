@@ -2,7 +2,7 @@ ghost use Rattle.std.specs.Prelude.{refl};
 
 use crate::letters::{FILL, send};
 use actor_trait::{Actor, Context, Event, Outcome, Sample};
-use sim_base::{ActorId, Items, Memory};
+use sim_base::{ActorId, Few, Items, Memory};
 use std::alloc::Global;
 use std::marker::Model;
 
@@ -39,20 +39,20 @@ impl Actor for Refill {
         _context: &Context,
         event: &Event<'_>,
     ) -> Result<Outcome<Self>, Memory> {
-        let mut sends = Items::new(alloc);
-        let mut samples = Items::new(alloc);
+        let mut sends = Few::new(alloc);
+        let mut samples = Few::new(alloc);
         if event.first {
             let sample = Sample {
                 probe: 0,
                 value: self.cans,
             };
-            samples.push(sample).map_err(|_| Memory)?;
+            samples.add(sample)?;
             send(&mut sends, self.machine, FILL, self.cans, 0)?;
         }
         Ok(Outcome {
             state: *self,
             sends,
-            ticks: Items::new(alloc),
+            ticks: Few::new(alloc),
             births: Items::new(alloc),
             samples,
             retire: event.first,

@@ -1,8 +1,9 @@
 -- The steps of the search for a cut.
-use Rattle.std.proofs.Common.{◌≡◌, ◌≢◌, ℕ, zero, suc, ◌<◌, ◌≤◌, List, [], ◌∷◌, ◌++◌, length, take, drop, get_or, Bool, true, false, ◌==◌, ◌&&◌, ◌↔◌, refl, sym, ap, ◌∙◌, subst, arith, true≢false}
+use Rattle.std.proofs.Common.{◌≡◌, ◌≢◌, ℕ, zero, suc, ◌-◌, ◌<◌, ◌≤◌, List, [], ◌∷◌, ◌++◌, append_assoc, length, take, drop, get_or, Bool, true, false, ◌==◌, ◌&&◌, ◌↔◌, refl, sym, ap, ◌∙◌, subst, arith, true≢false}
 use Rattle.std.proofs.lemmas.Bool.{and_parts, eqb-true, eq-eqb}
 use Rattle.std.proofs.lemmas.List.{length-append, take-append-drop}
 use Rattle.std.proofs.lemmas.List.Prefix.{front_rest}
+use Rattle.std.proofs.Math.Seq.{get_or-append_seam}
 use Rattle.std.specs.List.{list_all}
 use Rattle.result_store.specs.Patterns.{star}
 use Rattle.result_store.proofs.Parts.{Matches}
@@ -40,6 +41,31 @@ segment (suc n) (b ∷ p) t fits plain m =
     let cut : t ≡ b ∷ m.1 = m.2 ∙ ap (λ part. part ++ m.1) (m.3 (plain 0 (omega arith))) in
     let more = segment n p m.1 (omega arith) (λ j h. plain (suc j) (omega arith)) m.4 in
     (omega (arith, more.0, ap length cut), subst (λ t. Matches (drop n p) (drop (suc n) t)) (sym cut) more.1)
+
+-- ---- the last byte of a pattern, if no star, is that of the text
+
+abbrev pub last_byte : List ℕ → ℕ
+last_byte l = get_or l (length l - 1) 0
+
+later_last : (b c : ℕ) (p : List ℕ) → last_byte (b ∷ c ∷ p) ≡ last_byte (c ∷ p)
+later_last b c p = let place : length (b ∷ c ∷ p) - 1 ≡ suc (length (c ∷ p) - 1) = omega arith in ap (λ n. get_or (b ∷ c ∷ p) n 0) place
+
+ends_with : (p t : List ℕ) → 0 < length p → last_byte p ≢ star → Matches p t → (front : List ℕ) × (t ≡ front ++ last_byte p ∷ [])
+ends_with [] t some plain m = absurd (omega arith)
+ends_with (b ∷ []) t some plain m =
+    let only : t ≡ b ∷ m.1 = m.2 ∙ ap (λ part. part ++ m.1) (m.3 plain) in
+    ([], only ∙ ap (λ rest. b ∷ rest) m.4)
+ends_with (b ∷ c ∷ p) t some plain m =
+    let same : last_byte (b ∷ c ∷ p) ≡ last_byte (c ∷ p) = later_last b c p in
+    let more = ends_with (c ∷ p) m.1 (omega arith) (λ is. plain (same ∙ is)) m.4 in
+    let cut = m.2 ∙ ap (λ rest. m.0 ++ rest) more.1 ∙ sym (append_assoc m.0 more.0 (last_byte (c ∷ p) ∷ [])) in
+    (m.0 ++ more.0, cut ∙ ap (λ x. (m.0 ++ more.0) ++ x ∷ []) (sym same))
+
+pub same_end : (p t : List ℕ) → 0 < length p → last_byte p ≢ star → Matches p t → last_byte t ≡ last_byte p
+same_end p t some plain m =
+    let cut = ends_with p t some plain m in
+    let place : length t - 1 ≡ length cut.0 = omega (arith, ap length cut.1, length-append cut.0 (last_byte p ∷ [])) in
+    ap (λ n. get_or t n 0) place ∙ ap (λ l. get_or l (length cut.0) 0) cut.1 ∙ get_or-append_seam cut.0 (last_byte p) [] 0
 
 -- ---- at the end
 

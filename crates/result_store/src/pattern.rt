@@ -1,4 +1,4 @@
-ghost use Rattle.std.specs.Prelude.{◌≡◌, ◌<◌, ◌==◌, length, slice_index};
+ghost use Rattle.std.specs.Prelude.{◌≡◌, ◌-◌, ◌<◌, ◌==◌, true, length, slice_index};
 ghost use Rattle.std.specs.List.{list_all};
 ghost use Rattle.result_store.specs.Patterns.{matches, star};
 ghost use Rattle.result_store.specs.Turns.{IsTurn};
@@ -43,6 +43,13 @@ impl SeriesName<'_> {
             self.probe[at - point - 1]
         }
     }
+
+    /// The last byte. There is one, since there is a point.
+    fn last(&self) -> u8
+        ensures { result ≡ slice_index self.now (length self.now - 1) }
+    {
+        self.byte(self.actor.len() + self.probe.len())
+    }
 }
 
 /// What the pattern's next byte is to a byte of the text.
@@ -73,10 +80,22 @@ fn are_stars(pattern: &[u8]) -> bool
     pattern.iter().all(|byte| *byte == STAR)
 }
 
+/// Whether a text ends as a pattern does, if not with a star: what doesn't can't match, and of most
+/// series their last byte tells.
+fn ends_alike(pattern: &[u8], text: &SeriesName<'_>) -> bool
+    ensures { matches pattern.now text.now ≡ true → result ≡ true }
+{
+    if pattern.is_empty() {
+        return true;
+    }
+    let last = pattern[pattern.len() - 1];
+    last == STAR || text.last() == last
+}
+
 /// Whether a pattern matches a text. Where the rest doesn't match, only the last star takes a byte
 /// more: it takes the bytes up to `taken`, and the pattern goes on at `after`, which is 0 before the
 /// first star. So the steps are at most the product of the two lengths.
-pub(crate) fn matches(pattern: &[u8], text: &SeriesName<'_>) -> bool
+fn search(pattern: &[u8], text: &SeriesName<'_>) -> bool
     ensures { result ≡ matches pattern.now text.now }
 {
     let mut at = 0;
@@ -105,4 +124,11 @@ pub(crate) fn matches(pattern: &[u8], text: &SeriesName<'_>) -> bool
         }
     }
     are_stars(&pattern[at..])
+}
+
+/// Whether a pattern matches a text.
+pub(crate) fn matches(pattern: &[u8], text: &SeriesName<'_>) -> bool
+    ensures { result ≡ matches pattern.now text.now }
+{
+    ends_alike(pattern, text) && search(pattern, text)
 }

@@ -6,7 +6,7 @@ use Rattle.result_store.specs.Turns.{IsTurn}
 use Rattle.result_store.specs.declared.pattern.Turn.TheVariants as turn
 use Rattle.result_store.proofs.Parts.{matches-is}
 use Rattle.result_store.proofs.Search.{along, star_turn, same_turn, back_turn, no_turn, last_turn}
-use Rattle.result_store.proofs.pattern.matches.Goals as goal
+use Rattle.result_store.proofs.pattern.search.Goals as goal
 
 pub bytes-preserved-in-Star : goal.bytes-preserved-in-Star
 bytes-preserved-in-Star c =

@@ -2,7 +2,7 @@ use Rattle.std.proofs.Common.{◌≡◌, ◌≢◌, ℕ, ◌+◌, ◌-◌, ◌*�
 use Rattle.result_store.specs.Patterns.{star}
 use Rattle.result_store.proofs.Cuts.{Later}
 use Rattle.result_store.proofs.Parts.{Matches}
-use Rattle.result_store.proofs.pattern.matches.Given as goal
+use Rattle.result_store.proofs.pattern.search.Given as goal
 
 abbrev pub invariant-bytes : goal.invariant-bytes
 invariant-bytes l = record {

@@ -17,7 +17,6 @@ use Rattle.actor_trait.specs.declared.outcome.Outcome.{Outcome}
 use Rattle.sim_model.specs.Moment.{sends_of}
 use Rattle.sim_model.specs.declared.report.Report.{Report}
 use Rattle.sim_model.proofs.Sameness.{id_same}
-use Rattle.work_claims.specs.Collecting.{inbox_in}
 use Rattle.work_claims.specs.Letters.{is_calm, letters_sent}
 use Rattle.work_claims.specs.Placed.{Placed}
 
@@ -104,15 +103,3 @@ module _ (mine : ActorId → Bool) (to : ActorId) where
     told : (b : Bool) → in_order precedence (cond b (filter (is_to to) letters) []) ≡ cond b (in_order precedence (filter (is_to to) letters)) []
     told true = refl
     told false = empty_order precedence
-
-  -- where there is none of them
-  pub inbox_none : (letters all : List Letter) (precedence : Precedence) → letters ≡ filter (λ l. mine l.to) all → letters ≡ []
-      → [] ≡ cond (mine to) (inbox_order all to precedence) []
-  inbox_none letters all precedence is none =
-      sym (empty_order precedence) ∙ ap (λ ls. inbox_order ls to precedence) (sym none ∙ is) ∙ inbox_mine all precedence
-
--- no letter
-pub in_none : (letters : List Letter) (to : ActorId) (precedence : Precedence) (parts : List (List Letter)) → parts ≡ [] → length letters ≡ 0
-    → inbox_in parts to ≡ inbox_order letters to precedence
-in_none (l ∷ ls) to precedence parts none is = absurd (omega arith)
-in_none [] to precedence parts none is = ap (λ ps. inbox_in ps to) none ∙ sym (empty_order precedence)

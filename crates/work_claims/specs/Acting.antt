@@ -1,5 +1,5 @@
 -- What a hand does in its act phase.
-use Rattle.std.specs.Prelude.{◌≡◌, ◌≢◌, ℕ, ◌+◌, ◌-◌, ◌<◌, ◌≤◌, true, false, nat_eq, List, sum_by, length, ◌⊎◌}
+use Rattle.std.specs.Prelude.{◌≡◌, ◌≢◌, ℕ, ◌+◌, ◌-◌, ◌<◌, ◌≤◌, true, false, nat_eq, get_or, Bool, List, sum_by, length, ◌⊎◌}
 use Rattle.std.specs.List.{All}
 use Rattle.sim_base.specs.declared.ids.ActorId.{ActorId}
 use Rattle.actor_trait.specs.Meaning.{Meaning}
@@ -77,6 +77,10 @@ frees t a m = below (λ i. 1 - entered (mark a m i)) (scheduled t m)
 pub record Ended (managers : ℕ) (a : Account) : Type 0 where
   pub met : (k : ℕ) → k < managers → has_met a k ≡ true
   pub rest : AtRest a
+
+-- these flags tell at which managers the hand met the end
+abbrev pub AreMet : ℕ → List Bool → Account → Type 0
+AreMet managers flags a = (k : ℕ) → k < managers → get_or flags k false ≡ has_met a k
 
 -- a hand that may begin an act phase: it has done nothing, and may claim
 pub record IsNew (managers : ℕ) (a : Account) : Type 0 where

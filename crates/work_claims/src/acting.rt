@@ -4,6 +4,7 @@ ghost use Rattle.work_claims.specs.Acting.{AtRest, Ended, IsNew, Keeps, OneOpen,
 ghost use Rattle.work_claims.specs.Placed.{FitsRound, IsMeant, IsPlaced, id_at, scheduled_at};
 
 use crate::acted::Acted;
+use crate::alone::act_alone;
 use crate::pace::Pace;
 use crate::publishing::{publish, report_done};
 use crate::scene::Scene;
@@ -71,7 +72,7 @@ fn act_claimed<A: Actor + Drop, W: Scene<A>>(
 }
 
 /// One claim: false where all actors of the manager were claimed before. Err is want of memory.
-fn act_once<A: Actor + Drop, W: Scene<A>, T: Gate>(
+pub(crate) fn act_once<A: Actor + Drop, W: Scene<A>, T: Gate>(
     alloc: Global,
     world: &W,
     round: &Round,
@@ -110,7 +111,7 @@ fn act_once<A: Actor + Drop, W: Scene<A>, T: Gate>(
 }
 
 /// All claims at one manager, until it is exhausted. Err is want of memory.
-fn act_manager<A: Actor + Drop, W: Scene<A>, T: Gate>(
+pub(crate) fn act_manager<A: Actor + Drop, W: Scene<A>, T: Gate>(
     alloc: Global,
     world: &W,
     round: &Round,
@@ -209,10 +210,43 @@ fn share_of(round: &Round) -> u32 {
     scheduled / round.hands().max(1)
 }
 
+/// All claims of a hand: in the order of numbers where it works alone for several managers, and else from
+/// its home manager on. Err is want of memory.
+fn act_each<A: Actor + Drop, W: Scene<A>, T: Gate>(
+    alloc: Global,
+    world: &W,
+    round: &Round,
+    pace: &mut Pace<'_, T>,
+    hand: &mut Hand,
+    home: u32,
+    reports: &mut Items<Report<A>>,
+) -> Result<(), Memory>
+    requires of { hand.old.round ≡ round.now }
+    requires placed { IsPlaced (W.placed world.now) }
+    requires fits { FitsRound (W.placed world.now) round.now.shape }
+    requires home { home < (W.placed world.now).managers }
+    requires weight { 1 ≤ hand.old.account.weight }
+    requires claims { hand.old.account.collecting ≡ false }
+    requires not_met { (k : ℕ) → has_met hand.old.account k ≡ false }
+    requires rest { AtRest hand.old.account }
+    requires tells { Tells A.meaning (W.placed world.now) reports.old hand.old.account }
+    ensures of { hand.new.round ≡ round.now }
+    ensures keeps { Keeps hand.old.account hand.new.account }
+    ensures tells { Tells A.meaning (W.placed world.now) reports.new hand.new.account }
+    ensures ended { OnOk result (Ended (W.placed world.now).managers hand.new.account) }
+{
+    if round.hands() == 1 && world.managers() > 1 {
+        act_alone(alloc, world, round, pace, hand, share_of(round), reports)
+    } else {
+        act_all(alloc, world, round, pace, hand, home, reports)
+    }
+}
+
 /// Claims actors and lets them act, at the home manager of the hand first, which is its number modulo
-/// the managers, and then at the others in cyclic order, until all are claimed. Before each claim it
-/// passes the gate. The letters of an actor are announced and posted, and then it is reported; none of
-/// an actor that shows a fault is. It stops where memory is wanted; else `short` is false.
+/// the managers, and then at the others in cyclic order, until all are claimed; the only hand of a round
+/// in the order of numbers over all managers. Before each claim it passes the gate. The letters of an
+/// actor are announced and posted, and then it is reported; none of an actor that shows a fault is. It
+/// stops where memory is wanted; else `short` is false.
 pub fn act_phase<A: Actor + Drop, W: Scene<A>, T: Gate>(
     alloc: Global,
     world: &W,
@@ -260,7 +294,7 @@ pub(crate) fn act_in<A: Actor + Drop, W: Scene<A>, T: Gate>(
     let mut pace = Pace::new(gate, number);
     let home = number % world.managers();
     hand.learn();
-    let short = act_all(
+    let short = act_each(
         alloc,
         world,
         round,

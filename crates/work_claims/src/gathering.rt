@@ -93,7 +93,7 @@ fn gather<A: Actor, W: Scene<A>>(
     Ok(letters)
 }
 
-/// The ordered inboxes of letters, as one part, or no part where there is no letter. Err is want of memory.
+/// The ordered inboxes of letters, as one part, in room that others had. Err is want of memory.
 fn part_of(
     alloc: Global,
     mut room: Inboxes,
@@ -102,11 +102,8 @@ fn part_of(
 ) -> Result<Items<Inboxes>, Memory>
     ensures { IfOk result (λ parts. (to : ActorId) → inbox_in parts to ≡ inbox_order letters.items to precedence.now) }
 {
-    let mut parts = Items::new(alloc);
-    if letters.is_empty() {
-        return Ok(parts);
-    }
     room.renew_with(alloc, letters, precedence)?;
+    let mut parts = Items::new(alloc);
     parts.add(room)?;
     Ok(parts)
 }
@@ -118,8 +115,8 @@ fn takes_any(mine: &[bool; MANAGERS]) -> bool
     mine.iter().any(|is| *is)
 }
 
-/// The ordered inboxes of the actors of these managers, as one part, or no part where they have no
-/// letter. Their keys are made here. Err is want of memory.
+/// The ordered inboxes of the actors of these managers, as one part, or no part where there is no such
+/// manager. Their keys are made here. Err is want of memory.
 pub(crate) fn inboxes_of<A: Actor, W: Scene<A>>(
     alloc: Global,
     mut room: Inboxes,

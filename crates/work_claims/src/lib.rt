@@ -6,6 +6,7 @@
 mod act_together;
 mod acted;
 mod acting;
+mod alone;
 mod blocks;
 mod collect_together;
 mod collecting;

@@ -1,1 +1,2 @@
 pub mod Elders
+pub mod Pieces

@@ -1,7 +1,7 @@
-ghost use Rattle.std.specs.Prelude.{◌≡◌, ◌+◌, ℕ, Some, IfOk, OnOk};
+ghost use Rattle.std.specs.Prelude.{◌≡◌, IfOk, OnOk};
 ghost use Rattle.sim_base.specs.declared.moment.Ending.{Ending};
-ghost use Rattle.sim_model.specs.SetupParts.{SetupParts};
-ghost use Rattle.tick_advance.specs.Standing.{StandsFor, sim_of};
+ghost use Rattle.engine_tests.specs.Pieces.{GoesOn, TellsEnd};
+ghost use Rattle.tick_advance.specs.Standing.{sim_of};
 ghost use Rattle.tick_advance.specs.declared.position.Position.TheVariants as position;
 
 use crate::cases::End;
@@ -33,10 +33,8 @@ fn moment_on<R: Threads + Sync, A: Actor + Send + Sync + Drop, S: Sieve + Drop>(
     sim: &mut Sim<A, WheelAgenda, S>,
     rows: &mut Vec<Row>,
 ) -> Result<Option<Ending>, Fail>
-    ensures stands { OnOk result ((s : SetupParts A) (k : ℕ) → StandsFor A.meaning s k (sim_of S.keeps sim.old)
-        → (j : ℕ) × StandsFor A.meaning s (k + j) (sim_of S.keeps sim.new)) }
-    ensures over { IfOk result (λ ended. (e : Ending) (s : SetupParts A) (k : ℕ) → ended ≡ Some e → StandsFor A.meaning s k (sim_of S.keeps sim.old)
-        → (o : Ending) × (sim.new.position ≡ position.Ended o)) }
+    ensures stands { OnOk result (GoesOn A.meaning (sim_of S.keeps sim.old) (sim_of S.keeps sim.new)) }
+    ensures over { IfOk result (TellsEnd A.meaning (sim_of S.keeps sim.old) (sim_of S.keeps sim.new)) }
 {
     let went = sim.diasca(rt, &OpenGate)?;
     rows.extend_from_slice(sim.fresh()?.as_slice())?;
@@ -52,10 +50,8 @@ fn tick_on<R: Threads + Sync, A: Actor + Send + Sync + Drop, S: Sieve + Drop>(
     sim: &mut Sim<A, WheelAgenda, S>,
     rows: &mut Vec<Row>,
 ) -> Result<Option<Ending>, Fail>
-    ensures stands { OnOk result ((s : SetupParts A) (k : ℕ) → StandsFor A.meaning s k (sim_of S.keeps sim.old)
-        → (j : ℕ) × StandsFor A.meaning s (k + j) (sim_of S.keeps sim.new)) }
-    ensures over { IfOk result (λ ended. (e : Ending) (s : SetupParts A) (k : ℕ) → ended ≡ Some e → StandsFor A.meaning s k (sim_of S.keeps sim.old)
-        → (o : Ending) × (sim.new.position ≡ position.Ended o)) }
+    ensures stands { OnOk result (GoesOn A.meaning (sim_of S.keeps sim.old) (sim_of S.keeps sim.new)) }
+    ensures over { IfOk result (TellsEnd A.meaning (sim_of S.keeps sim.old) (sim_of S.keeps sim.new)) }
 {
     let went = sim.tick(rt, &OpenGate)?;
     rows.extend_from_slice(sim.fresh()?.as_slice())?;
@@ -72,10 +68,8 @@ fn go_on<R: Threads + Sync, A: Actor + Send + Sync + Drop, S: Sieve + Drop>(
     pace: Pace,
     rows: &mut Vec<Row>,
 ) -> Result<Option<Ending>, Fail>
-    ensures stands { OnOk result ((s : SetupParts A) (k : ℕ) → StandsFor A.meaning s k (sim_of S.keeps sim.old)
-        → (j : ℕ) × StandsFor A.meaning s (k + j) (sim_of S.keeps sim.new)) }
-    ensures over { IfOk result (λ ended. (e : Ending) (s : SetupParts A) (k : ℕ) → ended ≡ Some e → StandsFor A.meaning s k (sim_of S.keeps sim.old)
-        → (o : Ending) × (sim.new.position ≡ position.Ended o)) }
+    ensures stands { OnOk result (GoesOn A.meaning (sim_of S.keeps sim.old) (sim_of S.keeps sim.new)) }
+    ensures over { IfOk result (TellsEnd A.meaning (sim_of S.keeps sim.old) (sim_of S.keeps sim.new)) }
 {
     match pace {
         Pace::Moment => moment_on(rt, sim, rows),

@@ -1,4 +1,4 @@
-ghost use Rattle.std.specs.Prelude.{◌≡◌, ◌≤◌, IfOk, length};
+ghost use Rattle.std.specs.Prelude.{◌≡◌, ◌≤◌, true, IfOk, length};
 ghost use Rattle.local_manager.specs.declared.phase.Phase.TheVariants as phase;
 ghost use Rattle.crew_tests.specs.Scribes.{scribe_meaning};
 ghost use Rattle.work_claims.specs.Harvest.{IsHarvest};
@@ -126,7 +126,7 @@ pub fn world_of<R: Abort>(
     ensures { IfOk result (λ world. world.phase ≡ phase.Entered) }
 {
     let actors = scribes(alloc)?;
-    assert_eq!(rt; actors.len(), 20);
+    assert!(rt; actors.len() == 20);
     let setup = Setup {
         seed: 9,
         last_tick: 10,
@@ -213,12 +213,32 @@ fn are_between(closed: &Closed, expected: &[[u64; 3]; 3]) -> bool {
         == expected[m as usize][n as usize]))
 }
 
-/// The harvest is the expected one.
-fn compare<R: Abort>(rt: &R, harvest: &Harvest<Scribe>, expected: &Expected, managers: u32) {
-    assert!(rt; are_actors(harvest.reports.as_slice(), expected.actors));
-    assert!(rt; are_inboxes(&harvest.inboxes, expected.inboxes));
-    assert_eq!(rt; all_posted(&harvest.closed), expected.letters);
-    assert!(rt; managers != 3 || are_between(&harvest.closed, &expected.between));
+/// Whether a harvest is the expected one.
+fn is_expected(harvest: &Harvest<Scribe>, expected: &Expected, managers: u32) -> bool {
+    are_actors(harvest.reports.as_slice(), expected.actors)
+        && are_inboxes(&harvest.inboxes, expected.inboxes)
+        && all_posted(&harvest.closed) == expected.letters
+        && (managers != 3 || are_between(&harvest.closed, &expected.between))
+}
+
+/// The harvest of the moment that a world has entered is the expected one, and the moment is closed. Ok is
+/// whether another one is entered.
+fn one_moment<R: Threads + Sync + Abort>(
+    rt: &R,
+    alloc: Global,
+    world: &mut World<Scribe, WheelAgenda>,
+    hands: u32,
+    expected: &Expected,
+) -> Result<bool, Fail>
+    requires entered { world.old.phase ≡ phase.Entered }
+    requires least_hands { 1 ≤ hands }
+    requires most_hands { hands ≤ 64 }
+    ensures { IfOk result (λ went. went ≡ true → world.new.phase ≡ phase.Entered) }
+{
+    let harvest = harvest_of(rt, alloc, world, hands, &OpenGate)?;
+    assert!(rt; is_expected(&harvest, expected, world.managers()));
+    let went = enter_next(alloc, world, harvest)?;
+    Ok(went)
 }
 
 /// The harvests of two moments of a world of so many managers, by so many hands.
@@ -234,12 +254,12 @@ fn two_moments<R: Threads + Sync + Abort>(
     requires most_hands { hands ≤ 64 }
 {
     let mut world = world_of(rt, alloc, managers)?;
-    let first = harvest_of(rt, alloc, &world, hands, &OpenGate)?;
-    compare(rt, &first, &FIRST, managers);
-    assert!(rt; enter_next(alloc, &mut world, first)?);
-    let second = harvest_of(rt, alloc, &world, hands, &OpenGate)?;
-    compare(rt, &second, &SECOND, managers);
-    assert!(rt; !enter_next(alloc, &mut world, second)?);
+    if !one_moment(rt, alloc, &mut world, hands, &FIRST)? {
+        return Err(Fail::from("no second moment"));
+    }
+    if one_moment(rt, alloc, &mut world, hands, &SECOND)? {
+        return Err(Fail::from("a third moment"));
+    }
     Ok(())
 }
 
